@@ -1,0 +1,6 @@
+use Rattle.field.proofs.Held.{entered}
+use Rattle.field.proofs.Instances.{block-held}
+use Rattle.field.proofs.blocks.BlockElement.times.Needs as need
+
+pub returns : need.returns
+returns c = entered block-held _ _ (c .block-product .ensures)

@@ -1,0 +1,7 @@
+use mathlib.Core.Path.{refl}
+use Rattle.field.proofs.Held.{entered}
+use Rattle.field.proofs.Instances.{block-held}
+use Rattle.field.proofs.kinds.Block.new.Needs as need
+
+pub returns : need.returns
+returns c = entered block-held _ (c .args .bits) refl
