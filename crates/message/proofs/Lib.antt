@@ -1,0 +1,4 @@
+pub mod Cutting
+pub mod Strings
+pub mod StandardProduct
+pub mod StandardHash

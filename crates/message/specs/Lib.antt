@@ -1,0 +1,4 @@
+pub mod Blocks
+pub mod Hash
+pub mod Standard
+pub mod Answer
