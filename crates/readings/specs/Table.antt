@@ -7,10 +7,12 @@ use Rattle.std.specs.declared.result.Result.{Result}
 use Rattle.std.specs.declared.result.Result.the-variants.{Ok, Err}
 use Rattle.field.specs.Bytes.{blockOf}
 use Rattle.field.specs.Evaluation.{eval, power}
-use Rattle.field.specs.Kinds.{block, nibble, word, blockRing, nibbleRing, wordRing}
+use Rattle.field.specs.Kinds.{nibble, word, nibbleKind, blockRing, nibbleRing, wordRing}
 use Rattle.field.specs.declared.kinds.Block.{Block}
 use Rattle.message.specs.Hash.{hashOf, tagOf}
 use Rattle.message.specs.declared.digest.Digest.{Digest}
+use Rattle.polynomial.specs.Bits.{bitIn}
+use Rattle.polynomial.specs.Polynomials.{Annihilates, conjugates}
 use Rattle.refusal.specs.declared.Refusal.{Refusal}
 use Rattle.readings.specs.declared.Readings.{Readings}
 
@@ -33,6 +35,12 @@ pub record Table : Type 0 where
   pub word-one : eval wordRing (word 16807) (word 1 ∷ []) ≡ word 16807
   pub word-two : eval wordRing (word 16807) (word 1 ∷ (word 0 ∷ [])) ≡ word 282475249
   pub block-value : eval blockRing (first 0x40) (last 0x01 ∷ []) ≡ first 0xE1
+  -- t^4 + t^2 + 1 and t^4 + t^3 + t^2 annihilate the nibble 0110, and t^4 + t + 1 does not
+  pub first-proposal : Annihilates nibbleRing 4 (bitIn nibbleKind 0b0101) (nibble 0b0110)
+  pub second-proposal : Annihilates nibbleRing 4 (bitIn nibbleKind 0b1100) (nibble 0b0110)
+  pub third-proposal : Annihilates nibbleRing 4 (bitIn nibbleKind 0b0011) (nibble 0b0110) → ⊥
+  -- the product for the nibble 1000 is t^4 + t^3 + t^2 + t + 1
+  pub made-product : conjugates nibbleRing (nibble 0b1000) 4 ≡ replicate 5 (nibble 0b0001)
   -- an empty header and an empty body, at any subkey and under any pad
   pub empty-hash : (subkey : Block) → hashOf subkey [] [] ≡ blockOf (zeros 16)
   pub empty-tag : (subkey pad : Block) → tagOf subkey pad [] [] ≡ pad

@@ -8,6 +8,12 @@ pub enum Refusal {
     HeaderTooLong,
     // The body has more than 68,719,476,704 bytes.
     BodyTooLong,
+    // The proposed polynomial does not annihilate the subkey.
+    DoesNotAnnihilate,
+    // A coefficient of the made polynomial is neither zero nor one.
+    NotBinary,
+    // The scratch has fewer elements than a polynomial has coefficients.
+    ScratchTooShort,
 }
 
 impl Refusal {
@@ -18,6 +24,9 @@ impl Refusal {
         match self {
             Refusal::HeaderTooLong => 1,
             Refusal::BodyTooLong => 2,
+            Refusal::DoesNotAnnihilate => 3,
+            Refusal::NotBinary => 4,
+            Refusal::ScratchTooShort => 5,
         }
     }
 
@@ -27,6 +36,9 @@ impl Refusal {
         match self {
             Refusal::HeaderTooLong => "header over its limit",
             Refusal::BodyTooLong => "body over its limit",
+            Refusal::DoesNotAnnihilate => "proposal does not annihilate",
+            Refusal::NotBinary => "maker meets a coefficient neither zero nor one",
+            Refusal::ScratchTooShort => "scratch under 128 blocks",
         }
     }
 }

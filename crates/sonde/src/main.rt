@@ -1,17 +1,22 @@
 // The station's program: its first word says what to do.
+mod polynomials;
 mod stop;
 mod tag;
+mod words;
 
+use polynomials::print_maker;
+use polynomials::print_trial;
 use std::env;
 use stop::Stop;
 use stop::StopFromAlloc;
 use stop::StopFromIo;
 use tag::tag_files;
 
-const USAGE: &str = "usage: sonde tag SUBKEY PAD HEADER BODY
-  SUBKEY, PAD   32 hexadecimal digits each
-  HEADER, BODY  names of files
-prints the hash and the tag of the two files";
+const USAGE: &str = "usage:
+  sonde tag SUBKEY PAD HEADER BODY   the hash and the tag of two files
+  sonde maker SUBKEY                 a polynomial that annihilates the subkey
+  sonde trial SUBKEY PROPOSAL        whether a proposed polynomial does
+SUBKEY, PAD and PROPOSAL are 32 hexadecimal digits each, HEADER and BODY names of files";
 
 // Runs the command that the words name; the first word is the program's own name.
 fn run(rt: &LibcRuntime, words: &[String]) -> Result<(), Stop> {
@@ -21,6 +26,8 @@ fn run(rt: &LibcRuntime, words: &[String]) -> Result<(), Stop> {
     };
     match command.as_str() {
         "tag" => tag_files(rt, rest),
+        "maker" => print_maker(rt, rest),
+        "trial" => print_trial(rt, rest),
         _ => Err(Stop::NoCommand),
     }
 }

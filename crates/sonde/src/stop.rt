@@ -9,6 +9,7 @@ use std::io;
 pub(crate) enum Argument {
     Subkey,
     Pad,
+    Proposal,
     Header,
     Body,
 }
@@ -18,6 +19,7 @@ impl Argument {
         match self {
             Argument::Subkey => "SUBKEY",
             Argument::Pad => "PAD",
+            Argument::Proposal => "PROPOSAL",
             Argument::Header => "HEADER",
             Argument::Body => "BODY",
         }
@@ -58,6 +60,12 @@ pub(crate) impl From<io::Error> for Stop as StopFromIo {
 pub(crate) impl From<AllocError> for Stop as StopFromAlloc {
     fn from(_error: AllocError) -> Stop {
         Stop::NoMemory
+    }
+}
+
+pub(crate) impl From<Refusal> for Stop as StopFromRefusal {
+    fn from(refusal: Refusal) -> Stop {
+        Stop::Refused(refusal)
     }
 }
 

@@ -2,18 +2,10 @@
 use crate::stop::Argument;
 use crate::stop::Stop;
 use crate::stop::StopFromIo;
-use field::Block;
-use hex::parse_block;
+use crate::stop::StopFromRefusal;
+use crate::words::block_word;
 use message::hash_and_tag;
 use std::fs;
-
-// A word of 32 digits.
-fn block_word(argument: Argument, word: &str) -> Result<Block, Stop> {
-    match parse_block(word) {
-        Ok(block) => Ok(block),
-        Err(fault) => Err(Stop::BadHex { argument, fault }),
-    }
-}
 
 // A file's bytes.
 fn file_word(rt: &LibcRuntime, argument: Argument, path: &str) -> Result<Vec<u8>, Stop> {
@@ -34,10 +26,7 @@ pub(crate) fn tag_files(rt: &LibcRuntime, words: &[String]) -> Result<(), Stop> 
     let pad = block_word(Argument::Pad, pad.as_str())?;
     let header_bytes = file_word(rt, Argument::Header, header.as_str())?;
     let body_bytes = file_word(rt, Argument::Body, body.as_str())?;
-    let digest = match hash_and_tag(subkey, pad, header_bytes.as_slice(), body_bytes.as_slice()) {
-        Ok(digest) => digest,
-        Err(refusal) => return Err(Stop::Refused(refusal)),
-    };
+    let digest = hash_and_tag(subkey, pad, header_bytes.as_slice(), body_bytes.as_slice())?;
     let header_len = header_bytes.len();
     let body_len = body_bytes.len();
     println!(rt, "header {header}: {header_len} bytes")?;

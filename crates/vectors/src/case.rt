@@ -1,5 +1,5 @@
 // One published case, a line of seven words: number, subkey, pad, header, body, hash, tag.
-use field::Block;
+use crate::trials::print_made;
 use field::BlockPartialEq;
 use hex::HexFault;
 use hex::parse_block;
@@ -39,7 +39,7 @@ impl From<HexFault> for Fault as FaultFromHex {
     }
 }
 
-impl From<Refusal> for Fault as FaultFromRefusal {
+pub(crate) impl From<Refusal> for Fault as FaultFromRefusal {
     fn from(refusal: Refusal) -> Fault {
         Fault::Refused(refusal)
     }
@@ -53,16 +53,17 @@ fn read_part(heap: Global, word: &str) -> Result<Vec<u8>, Fault> {
     Ok(parse_bytes(heap, word)?)
 }
 
-// Prints what a case gives, and answers whether it is as published.
+// Prints what a case gives and a polynomial for its subkey, and answers whether hash and tag are as published.
 pub(crate) fn compare(rt: &LibcRuntime, line: &str) -> Result<bool, Fault> {
     let words: Vec<&str> = line.split_whitespace().collect(rt.alloc())?;
     let [number, subkey, pad, header, body, hash, tag] = words.as_slice() else {
         return Err(Fault::WrongCount);
     };
+    let subkey = parse_block(subkey)?;
     let header = read_part(rt.alloc(), header)?;
     let body = read_part(rt.alloc(), body)?;
     let digest = hash_and_tag(
-        parse_block(subkey)?,
+        subkey,
         parse_block(pad)?,
         header.as_slice(),
         body.as_slice(),
@@ -75,5 +76,6 @@ pub(crate) fn compare(rt: &LibcRuntime, line: &str) -> Result<bool, Fault> {
         digest.hash.bits(),
         digest.tag.bits()
     )?;
+    print_made(rt, subkey)?;
     Ok(same)
 }

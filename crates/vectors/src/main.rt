@@ -1,5 +1,6 @@
-// Hashes the published GCM cases and compares, then prints the readings that are proved.
+// Hashes the published GCM cases and compares, tries polynomials, and prints the readings that are proved.
 mod case;
+mod trials;
 
 use case::Fault;
 use case::FaultFromIo;
@@ -9,6 +10,7 @@ use field::BlockElement;
 use field::Element;
 use readings::Readings;
 use readings::take_readings;
+use trials::print_trials;
 
 // Every line of the input that is no comment is a case; answers how many there are and how many agree.
 fn compare_all(rt: &LibcRuntime) -> Result<(u32, u32), Fault> {
@@ -50,6 +52,7 @@ fn print_readings(rt: &LibcRuntime, r: &Readings) -> Result<(), Fault> {
 fn run(rt: &LibcRuntime) -> Result<(), Fault> {
     let (cases, agreeing) = compare_all(rt)?;
     println!(rt, "{agreeing} of {cases} cases as published")?;
+    print_trials(rt)?;
     if let Ok(readings) = take_readings(Block::one(), Block::new(0xff)) {
         print_readings(rt, &readings)?;
     }
