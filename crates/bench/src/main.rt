@@ -1,16 +1,20 @@
 // Measures the library's inner loops; with no word it says how.
+mod engines;
+
+use engines::engines;
 use field::Block;
 use field::BlockElement;
 use field::Element;
 use polynomial::BlockBinary;
-use polynomial::make_proposal;
+use polynomial::make_polynomial;
 use polynomial::try_polynomial;
 use std::env;
 use std::error::AnyError;
 use std::time::Instant;
 
-const USAGE: &str = "usage: bench product|trial|maker COUNT
-prints nanoseconds a block product, a trial or a making, over COUNT of them";
+const USAGE: &str = "usage: bench product|trial|maker|engines COUNT
+prints nanoseconds a block product, a trial or a making, over COUNT of them,
+or a table of the engines' times a block, each row over COUNT hashes";
 
 // The subkey of the first published case.
 fn key() -> Block {
@@ -51,7 +55,7 @@ fn accepts() -> bool {
 // Whether the key's polynomial is made.
 fn makes() -> bool {
     let mut scratch = [Block::zero(); 128];
-    make_proposal(key(), &mut scratch).is_ok()
+    make_polynomial(key(), &mut scratch).is_ok()
 }
 
 fn trial(rt: &LibcRuntime, count: u32) -> Result<(), AnyError> {
@@ -91,6 +95,7 @@ fn run(rt: &LibcRuntime) -> Result<(), AnyError> {
         "product" => product(rt, count),
         "trial" => trial(rt, count),
         "maker" => maker(rt, count),
+        "engines" => engines(rt, count),
         _ => Err("no such loop".into()),
     }
 }

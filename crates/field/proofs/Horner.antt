@@ -10,6 +10,9 @@ use Rattle.field.specs.Evaluation.{power, eval, absorbed}
 use Rattle.field.specs.declared.element.Element.{Ghosts}
 
 module _ {R : Type 0} (m : Ghosts R) (laws : CommutativeRing (m .zero) (m .one) (m .sum) (m .product)) where
+  pub zero-sum : (x : R) → m .sum (m .zero) x ≡ x
+  zero-sum x = laws .sum-comm (m .zero) x ∙ laws .sum-zero x
+
   pub sum-product : (x y z : R) → m .product (m .sum x y) z ≡ m .sum (m .product x z) (m .product y z)
   sum-product x y z =
       laws .product-comm (m .sum x y) z
@@ -20,7 +23,7 @@ module _ {R : Type 0} (m : Ghosts R) (laws : CommutativeRing (m .zero) (m .one) 
   pub eval-push : (r : R) (ps : List R) (q : R) → eval m r (ps ++ (q ∷ [])) ≡ m .product (m .sum (eval m r ps) q) r
   eval-push r [] q =
       sym
-      (ap (λ x. m .product x r) (laws .sum-comm (m .zero) q ∙ laws .sum-zero q)
+      (ap (λ x. m .product x r) (zero-sum q)
       ∙ ap (m .product q) (sym (laws .product-one r))
       ∙ sym (laws .sum-zero (m .product q (m .product r (m .one)))))
   eval-push r (p ∷ ps) q =

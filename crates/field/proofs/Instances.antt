@@ -1,9 +1,9 @@
 -- The three kinds as held numbers, and their rings.
-use mathlib.Core.Path.{_≡_, refl}
+use mathlib.Core.Path.{_≡_, refl, ap}
 use mathlib.Core.HLevel.{isProp→PathP}
 use Prim.Native.Nat.{ℕ, _-_, _*_, _^_, _<_}
 use native.Mathlib.Bridge.{le-prop}
-use lib.Bits.{bitXor}
+use lib.Bits.{bitXor, xor-self}
 use lib.Dec.{lit<}
 use Rattle.field.specs.Ring.{CommutativeRing}
 use Rattle.field.specs.Binary.{multiplied}
@@ -57,3 +57,10 @@ block-sum-bits = sum-number blockKind block-lawful block-held
 
 pub block-product-bits : (u v : Block) → blockRing .product u v .bits ≡ multiplied blockKind 128 (u .bits) (v .bits)
 block-product-bits = product-number blockKind block-lawful block-held
+
+-- twice anything is zero
+pub block-even : (x : Block) → blockRing .sum x x ≡ blockRing .zero
+block-even x = ap block (xor-self (x .bits))
+
+pub nibble-even : (x : Nibble) → nibbleRing .sum x x ≡ nibbleRing .zero
+nibble-even x = ap nibble (xor-self (x .bits))

@@ -10,13 +10,13 @@ use Rattle.field.specs.declared.element.Element.{Ghosts}
 use Rattle.polynomial.specs.Steps.{raised}
 
 -- lists with the same end have the same element there
-same-here : {X : Type 0} (xs ys : List X) (j : ℕ) (d : X) → drop j xs ≡ drop j ys → getD xs j d ≡ getD ys j d
+pub same-here : {X : Type 0} (xs ys : List X) (j : ℕ) (d : X) → drop j xs ≡ drop j ys → getD xs j d ≡ getD ys j d
 same-here xs ys j d same =
     ap (λ n. getD xs n d) (sym (add-zero j)) ∙ sym (getD-drop j xs 0 d) ∙ ap (λ zs. getD zs 0 d) same ∙ getD-drop j ys 0 d
     ∙ ap (λ n. getD ys n d) (add-zero j)
 
 -- and the same end one place on
-same-after : {X : Type 0} (xs ys : List X) (j : ℕ) → drop j xs ≡ drop j ys → drop (j + 1) xs ≡ drop (j + 1) ys
+pub same-after : {X : Type 0} (xs ys : List X) (j : ℕ) → drop j xs ≡ drop j ys → drop (j + 1) xs ≡ drop (j + 1) ys
 same-after xs ys j same = sym (drop-drop 1 j xs) ∙ ap (drop 1) same ∙ drop-drop 1 j ys
 
 module _ {K : Type 0} (m : Ghosts K) (z top : K) (old now : List K) (d : ℕ) (long : length now ≡ length old) (room : d < length old) where

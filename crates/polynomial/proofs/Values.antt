@@ -10,13 +10,10 @@ use Rattle.std.proofs.shelf.Counted.{length-map-counting, map-counting-more}
 use Rattle.field.specs.Ring.{CommutativeRing}
 use Rattle.field.specs.Evaluation.{power}
 use Rattle.field.specs.declared.element.Element.{Ghosts}
-use Rattle.field.proofs.Horner.{sum-product, product-zero, zero-product}
+use Rattle.field.proofs.Horner.{zero-sum, sum-product, product-zero, zero-product}
 use Rattle.polynomial.specs.Polynomials.{valueFrom, valueAt, element, stored, linearFrom, timesLinear, conjugates, factorsAt}
 
 module _ {K : Type 0} (m : Ghosts K) (laws : CommutativeRing (m .zero) (m .one) (m .sum) (m .product)) where
-  zero-sum : (x : K) → m .sum (m .zero) x ≡ x
-  zero-sum x = laws .sum-comm (m .zero) x ∙ laws .sum-zero x
-
   pub one-product : (x : K) → m .product (m .one) x ≡ x
   one-product x = laws .product-comm (m .one) x ∙ laws .product-one x
 
@@ -35,7 +32,7 @@ module _ {K : Type 0} (m : Ghosts K) (laws : CommutativeRing (m .zero) (m .one) 
   value-push r j [] c =
       laws .sum-zero (m .product c (power m r j))
       ∙ ap (λ n. m .product c (power m r n)) (sym (add-zero j))
-      ∙ sym (zero-sum (m .product c (power m r (j + zero))))
+      ∙ sym (zero-sum m laws (m .product c (power m r (j + zero))))
   value-push r j (d ∷ cs) c =
       ap (m .sum (m .product d (power m r j)))
       (value-push r (suc j) cs c
@@ -67,7 +64,7 @@ module _ {K : Type 0} (m : Ghosts K) (laws : CommutativeRing (m .zero) (m .one) 
   times-linear-value r z cs =
       linear-value r z 0 (m .zero) cs
       ∙ ap (λ y. m .sum y (m .product (m .sum r z) (valueAt m r cs))) (zero-product m laws (m .one))
-      ∙ zero-sum (m .product (m .sum r z) (valueAt m r cs))
+      ∙ zero-sum m laws (m .product (m .sum r z) (valueAt m r cs))
 
   -- the value of the product is the product of the values
   pub conjugates-value : (point r : K) (n : ℕ) → valueAt m point (conjugates m r n) ≡ factorsAt m point r n

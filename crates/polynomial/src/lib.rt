@@ -12,6 +12,6 @@ pub use binary::Binary;
 pub use blocks::BlockBinary;
 pub use blocks::Trial;
 pub use blocks::try_polynomial;
-pub use maker::make_proposal;
+pub use maker::make_polynomial;
 pub use nibbles::NibbleBinary;
 pub use trial::try_proposal;

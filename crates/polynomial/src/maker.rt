@@ -69,7 +69,7 @@ fn find_bits<K: Binary>(scratch: &mut [K], subkey: K) -> Option<K>
 }
 
 // The polynomial of all conjugates of the subkey, which annihilates it.
-pub fn make_proposal<K: Binary>(subkey: K, scratch: &mut [K]) -> Result<K, Refusal>
+pub fn make_polynomial<K: Binary>(subkey: K, scratch: &mut [K]) -> Result<K, Refusal>
     ensures value { λ r. ⌜ Made K·Element (K·Binary .width) (length (now (scratch .entry))) (K·Binary .bits) subkey r ⌝ }
     ensures annihilates { λ r. ⌜ made r (λ p. Annihilates K·Element (K·Binary .width) (K·Binary .bits p) subkey) ⌝ }
     ensures factors { λ _. ⌜ ((point : K) (n : ℕ) → valueAt K·Element point (conjugates K·Element subkey n) ≡ factorsAt K·Element point subkey n) ⌝ }

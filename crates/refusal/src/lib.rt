@@ -14,6 +14,8 @@ pub enum Refusal {
     NotBinary,
     // The scratch has fewer elements than a polynomial has coefficients.
     ScratchTooShort,
+    // A switch was asked of an engine that is not ready for one.
+    NotReady,
 }
 
 impl Refusal {
@@ -27,6 +29,7 @@ impl Refusal {
             Refusal::DoesNotAnnihilate => 3,
             Refusal::NotBinary => 4,
             Refusal::ScratchTooShort => 5,
+            Refusal::NotReady => 6,
         }
     }
 
@@ -39,6 +42,7 @@ impl Refusal {
             Refusal::DoesNotAnnihilate => "proposal does not annihilate",
             Refusal::NotBinary => "maker meets a coefficient neither zero nor one",
             Refusal::ScratchTooShort => "scratch under 128 blocks",
+            Refusal::NotReady => "switch with ready no",
         }
     }
 }

@@ -9,7 +9,7 @@ use field::BlockElement;
 use field::Element;
 use polynomial::Binary;
 use polynomial::BlockBinary;
-use polynomial::make_proposal;
+use polynomial::make_polynomial;
 use polynomial::try_polynomial;
 
 pub(crate) fn print_maker(rt: &LibcRuntime, words: &[String]) -> Result<(), Stop> {
@@ -21,7 +21,7 @@ pub(crate) fn print_maker(rt: &LibcRuntime, words: &[String]) -> Result<(), Stop
     };
     let subkey = block_word(Argument::Subkey, subkey.as_str())?;
     let mut scratch = [Block::zero(); 128];
-    let made = make_proposal(subkey, &mut scratch)?;
+    let made = make_polynomial(subkey, &mut scratch)?;
     println!(rt, "polynomial {:032x}", made.bits())?;
     println!(rt, "weight {}", made.weight())?;
     Ok(())

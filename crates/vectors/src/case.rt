@@ -1,4 +1,5 @@
 // One published case, a line of seven words: number, subkey, pad, header, body, hash, tag.
+use crate::engines::print_engines;
 use crate::trials::print_made;
 use field::BlockPartialEq;
 use hex::HexFault;
@@ -27,7 +28,7 @@ pub(crate) impl From<io::Error> for Fault as FaultFromIo {
     }
 }
 
-impl From<AllocError> for Fault as FaultFromAlloc {
+pub(crate) impl From<AllocError> for Fault as FaultFromAlloc {
     fn from(_error: AllocError) -> Fault {
         Fault::NoMemory
     }
@@ -77,5 +78,6 @@ pub(crate) fn compare(rt: &LibcRuntime, line: &str) -> Result<bool, Fault> {
         digest.tag.bits()
     )?;
     print_made(rt, subkey)?;
+    print_engines(rt, subkey, header.as_slice(), body.as_slice(), digest.hash)?;
     Ok(same)
 }

@@ -1,10 +1,12 @@
 // Hashes the published GCM cases and compares, tries polynomials, and prints the readings that are proved.
 mod case;
+mod engines;
 mod trials;
 
 use case::Fault;
 use case::FaultFromIo;
 use case::compare;
+use engines::print_long;
 use field::Block;
 use field::BlockElement;
 use field::Element;
@@ -52,6 +54,7 @@ fn print_readings(rt: &LibcRuntime, r: &Readings) -> Result<(), Fault> {
 fn run(rt: &LibcRuntime) -> Result<(), Fault> {
     let (cases, agreeing) = compare_all(rt)?;
     println!(rt, "{agreeing} of {cases} cases as published")?;
+    print_long(rt, Block::new(0x66e9_4bd4_ef8a_2c3b_884c_fa59_ca34_2b2e))?;
     print_trials(rt)?;
     if let Ok(readings) = take_readings(Block::one(), Block::new(0xff)) {
         print_readings(rt, &readings)?;

@@ -10,7 +10,7 @@ use field::NibbleElement;
 use polynomial::Binary;
 use polynomial::BlockBinary;
 use polynomial::NibbleBinary;
-use polynomial::make_proposal;
+use polynomial::make_polynomial;
 use polynomial::try_polynomial;
 use polynomial::try_proposal;
 
@@ -85,7 +85,7 @@ pub(crate) fn print_trials(rt: &LibcRuntime) -> Result<(), Fault> {
 // The maker's polynomial for a subkey, with the weight that the trial of it answers.
 pub(crate) fn print_made(rt: &LibcRuntime, subkey: Block) -> Result<(), Fault> {
     let mut scratch = [Block::zero(); 128];
-    let made = make_proposal(subkey, &mut scratch)?;
+    let made = make_polynomial(subkey, &mut scratch)?;
     let trial = try_polynomial(subkey, made, &mut scratch)?;
     println!(
         rt,

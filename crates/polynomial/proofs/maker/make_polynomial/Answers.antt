@@ -8,7 +8,7 @@ use Rattle.polynomial.specs.Polynomials.{stored, conjugates}
 use Rattle.polynomial.proofs.Conjugates.{conjugates-lower}
 use Rattle.polynomial.proofs.Made.{made-annihilates, neither-conjugates}
 use Rattle.polynomial.proofs.Values.{conjugates-value}
-use Rattle.polynomial.proofs.maker.make_proposal.Needs as need
+use Rattle.polynomial.proofs.maker.make_polynomial.Needs as need
 
 pub returns-then-scratch-width : need.returns-then-scratch-width
 returns-then-scratch-width g c = record {
