@@ -32,6 +32,16 @@ ANOTHER = {
     "tooLong": "refusal_of_part",
     "lengthBlock": "block_of_lengths",
     "blocksIn": "blocks_taken",
+    "block-ring": "block_ring_laws",
+    "nibble-ring": "nibble_ring_laws",
+    "word-ring": "word_ring_laws",
+    "new-blocks": "new_blocks_follow",
+    "lastBlock": "final_block",
+    "block-count": "block_count_same",
+    "body-on": "body_goes_on",
+    "previous-at": "previous_at_place",
+    "within-limits": "limits_kept",
+    "block-string": "block_string_same",
 }
 ROWS = (
     "nibble-product nibble-value nibble-modulus word-one word-two block-value first-proposal second-proposal "

@@ -1,4 +1,6 @@
 // Measures the library's inner loops; with no word it says how.
+#![tactic(auto)]
+
 mod engines;
 
 use anyhow::anyhow;

@@ -4,7 +4,7 @@ use Rattle.field.specs.Evaluation.{eval, absorbed as taken_in}
 use Rattle.field.specs.Kinds.{block_ring}
 use Rattle.field.specs.declared.kinds.Block.{Block}
 use Rattle.field.proofs.Horner.{absorbed_append, absorbed_eval}
-use Rattle.field.specs.Instances.{block_ring}
+use Rattle.field.specs.Instances.{block_ring_laws}
 use Rattle.engine.specs.Chain.{Operation, absorb, Chain}
 use Rattle.engine.specs.Hashing.{hash_step}
 use Rattle.engine.specs.Rows.{Hashed}
@@ -36,7 +36,7 @@ module _ {E : Type 0} (m : Ghosts E) where
         b.value
         ∙ ap (λ k. taken_in block_ring k (m.value_of f) qs) a.subkey
         ∙ ap (λ v. taken_in block_ring (m.subkey_of e) v qs) a.value
-        ∙ sym (absorbed_append block_ring block_ring (m.subkey_of e) (m.value_of e) ps qs);
+        ∙ sym (absorbed_append block_ring block_ring_laws (m.subkey_of e) (m.value_of e) ps qs);
     chain =
         subst (λ (os : List Operation). Chain m os e g) (sym (map_append ps qs))
         (chain_append m (map absorb ps) (map absorb qs) e f g a.chain b.chain);
@@ -48,4 +48,4 @@ module _ {E : Type 0} (m : Ghosts E) where
   hashed_eval h e f ps qs a key so_far =
       a.value
       ∙ ap₂ (λ k v. taken_in block_ring k v qs) key so_far
-      ∙ absorbed_eval block_ring block_ring h ps qs
+      ∙ absorbed_eval block_ring block_ring_laws h ps qs

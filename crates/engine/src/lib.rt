@@ -1,4 +1,6 @@
 // Engines: what hashes blocks one by one, and pairs of engines that hand over to each other.
+#![tactic(auto)]
+
 mod division;
 mod engine;
 mod pair;

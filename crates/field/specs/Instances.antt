@@ -41,14 +41,14 @@ block_lawful = high_lawful 128 (0xE1 * 2 ^ 120) (lit< tt) (lit< tt)
 pub nibble_lawful : Lawful nibble_kind
 nibble_lawful = low_lawful 4 3 (lit< tt) (lit< tt)
 
-pub block_ring : CommutativeRing block_ring.zero block_ring.one block_ring.sum block_ring.product
-block_ring = binary_ring block_kind block_lawful block_held
+pub block_ring_laws : CommutativeRing block_ring.zero block_ring.one block_ring.sum block_ring.product
+block_ring_laws = binary_ring block_kind block_lawful block_held
 
-pub nibble_ring : CommutativeRing nibble_ring.zero nibble_ring.one nibble_ring.sum nibble_ring.product
-nibble_ring = binary_ring nibble_kind nibble_lawful nibble_held
+pub nibble_ring_laws : CommutativeRing nibble_ring.zero nibble_ring.one nibble_ring.sum nibble_ring.product
+nibble_ring_laws = binary_ring nibble_kind nibble_lawful nibble_held
 
-pub word_ring : CommutativeRing word_ring.zero word_ring.one word_ring.sum word_ring.product
-word_ring = modular_ring word_held (lit< tt)
+pub word_ring_laws : CommutativeRing word_ring.zero word_ring.one word_ring.sum word_ring.product
+word_ring_laws = modular_ring word_held (lit< tt)
 
 -- the bits of a sum and of a product of blocks
 pub block_sum_bits : (u v : Block) → (block_ring.sum u v).bits ≡ bit_xor u.bits v.bits

@@ -2,7 +2,7 @@
 ghost use Rattle.std.specs.Prelude.{◌≡◌, ◌+◌, ◌*◌, ◌^◌};
 ghost use Rattle.field.specs.Bytes.{block_of, bytes_of};
 ghost use Rattle.field.specs.Kinds.{block, block_ring};
-ghost use Rattle.field.specs.Instances.{block_ring};
+ghost use Rattle.field.specs.Instances.{block_ring_laws};
 
 use crate::binary::block_product;
 use crate::element::Element;
@@ -56,7 +56,7 @@ impl Element for Block {
 
     ghost product = { block_ring.product };
 
-    ghost ring = { block_ring };
+    ghost ring = { block_ring_laws };
 
     fn zero() -> Block {
         Block { bits: 0 }

@@ -1,4 +1,6 @@
 // Elements that can be added and multiplied, and the value of a row of them at a key.
+#![tactic(auto)]
+
 mod binary;
 mod blocks;
 mod element;

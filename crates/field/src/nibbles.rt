@@ -1,7 +1,7 @@
 // Nibbles: in and out, sum and product.
 ghost use Rattle.std.specs.Prelude.{◌≡◌};
 ghost use Rattle.field.specs.Kinds.{nibble, nibble_ring};
-ghost use Rattle.field.specs.Instances.{nibble_ring};
+ghost use Rattle.field.specs.Instances.{nibble_ring_laws};
 
 use crate::binary::low_product;
 use crate::element::Element;
@@ -31,7 +31,7 @@ impl Element for Nibble {
 
     ghost product = { nibble_ring.product };
 
-    ghost ring = { nibble_ring };
+    ghost ring = { nibble_ring_laws };
 
     fn zero() -> Nibble {
         Nibble { bits: 0 }

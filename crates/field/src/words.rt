@@ -1,7 +1,7 @@
 // Words: in and out, sum and product.
 ghost use Rattle.std.specs.Prelude.{◌≡◌};
 ghost use Rattle.field.specs.Kinds.{word, word_ring};
-ghost use Rattle.field.specs.Instances.{word_ring};
+ghost use Rattle.field.specs.Instances.{word_ring_laws};
 
 use crate::element::Element;
 use crate::kinds::Word;
@@ -32,7 +32,7 @@ impl Element for Word {
 
     ghost product = { word_ring.product };
 
-    ghost ring = { word_ring };
+    ghost ring = { word_ring_laws };
 
     fn zero() -> Word {
         Word { value: 0 }

@@ -1,4 +1,6 @@
 // The format of sealed files.
+#![tactic(auto)]
+
 mod check;
 mod lengths;
 

@@ -1,4 +1,6 @@
 // Hexadecimal words that a user gives, read as a block or as bytes.
+#![tactic(auto)]
+
 ghost use Rattle.std.specs.Prelude.{◌≡◌, ◌≤◌, length, IfOk};
 ghost use Rattle.hexadecimal.specs.Digits.{digit_of, value_of, first_bad, number_in, bytes_from};
 ghost use Rattle.hexadecimal.specs.Words.{unless_bad, block_in, bytes_in, BytesRead};

@@ -18,8 +18,8 @@ use Rattle.job.specs.declared.state.Filling.{Filling}
 use Rattle.job.proofs.Cutting.{full_append}
 
 -- the blocks that become full are those of the waiting bytes and the piece
-pub new_blocks : (taken piece : List ℕ) → new_blocks taken piece ≡ full_blocks (left_over taken ++ piece)
-new_blocks taken piece =
+pub new_blocks_follow : (taken piece : List ℕ) → new_blocks taken piece ≡ full_blocks (left_over taken ++ piece)
+new_blocks_follow taken piece =
     ap (drop (length (full_blocks taken))) (full_append taken piece)
     ∙ drop_at (full_blocks taken) (full_blocks (left_over taken ++ piece)) (length (full_blocks taken)) refl
 
@@ -113,7 +113,7 @@ module _ {E : Type 0} (m : Ghosts E) (part : Part) (h : Block) (given : Bool) (b
         → Chain m (map absorb (new_blocks taken (cond (is_ok a) piece []))) f.engine t.engine
     fed_operations (Ok x) fed held =
         subst (λ (ps : List Block). Chain m (map absorb ps) f.engine t.engine)
-        (ap (λ w. full_blocks (w ++ piece)) held.left ∙ sym (new_blocks taken piece)) fed.hashed.chain
+        (ap (λ w. full_blocks (w ++ piece)) held.left ∙ sym (new_blocks_follow taken piece)) fed.hashed.chain
     fed_operations (Err x) same held =
         subst (λ (ps : List Block). Chain m (map absorb ps) f.engine t.engine) (sym (no_new_blocks taken)) (ap (λ u. u.engine) same)
 

@@ -4,7 +4,7 @@ use Rattle.field.specs.Evaluation.{power, eval}
 use Rattle.field.specs.Kinds.{block_ring}
 use Rattle.field.specs.declared.kinds.Block.{Block}
 use Rattle.field.proofs.Horner.{sum_product}
-use Rattle.field.specs.Instances.{block_ring}
+use Rattle.field.specs.Instances.{block_ring_laws}
 use Rattle.message.specs.Blocks.{blocks_taken, blocks, block_of_lengths, block_list}
 use Rattle.message.specs.Hash.{hash_of}
 use Rattle.message.proofs.Cutting.{length_blocks}
@@ -18,20 +18,20 @@ length_xored (p ∷ ps) (q ∷ qs) same = ap suc (length_xored ps qs (omega arit
 
 eval_xored : (h : Block) (ps qs : List Block) → length ps ≡ length qs
     → eval block_ring h (xored ps qs) ≡ block_ring.sum (eval block_ring h ps) (eval block_ring h qs)
-eval_xored h [] [] same = sym (block_ring.sum_zero block_ring.zero)
+eval_xored h [] [] same = sym (block_ring_laws.sum_zero block_ring.zero)
 eval_xored h [] (q ∷ qs) same = absurd (omega arith)
 eval_xored h (p ∷ ps) [] same = absurd (omega arith)
 eval_xored h (p ∷ ps) (q ∷ qs) same =
     let one_less : length ps ≡ length qs = omega arith in
     let w : Block = power block_ring h (suc (length ps)) in
     ap₂ block_ring.sum
-    (ap (λ n. block_ring.product (block_ring.sum p q) (power block_ring h (suc n))) (length_xored ps qs one_less) ∙ sum_product block_ring block_ring p q w)
+    (ap (λ n. block_ring.product (block_ring.sum p q) (power block_ring h (suc n))) (length_xored ps qs one_less) ∙ sum_product block_ring block_ring_laws p q w)
     (eval_xored h ps qs one_less)
-    ∙ four block_ring block_ring h (block_ring.product p w) (block_ring.product q w) (eval block_ring h ps) (eval block_ring h qs)
+    ∙ four block_ring block_ring_laws h (block_ring.product p w) (block_ring.product q w) (eval block_ring h ps) (eval block_ring h qs)
     ∙ ap (λ n. block_ring.sum (eval block_ring h (p ∷ ps)) (block_ring.sum (block_ring.product q (power block_ring h (suc n))) (eval block_ring h qs))) one_less
 
-block_count : (header body : List ℕ) → length (block_list header body) ≡ blocks_taken (length header) + (blocks_taken (length body) + 1)
-block_count header body =
+block_count_same : (header body : List ℕ) → length (block_list header body) ≡ blocks_taken (length header) + (blocks_taken (length body) + 1)
+block_count_same header body =
     length-append (blocks header) (blocks body ++ (block_of_lengths (length header) (length body) ∷ []))
     ∙ ap₂ (λ m n. m + n) (length_blocks header)
     (length-append (blocks body) (block_of_lengths (length header) (length body) ∷ []) ∙ ap (λ n. n + 1) (length_blocks body))
@@ -42,4 +42,4 @@ unfolding hash_of difference_of
 hashes_differ h header body header' body' same =
     sym
     (eval_xored h (block_list header body) (block_list header' body')
-    (block_count header body ∙ ap₂ (λ m n. blocks_taken m + (blocks_taken n + 1)) same.0 same.1 ∙ sym (block_count header' body')))
+    (block_count_same header body ∙ ap₂ (λ m n. blocks_taken m + (blocks_taken n + 1)) same.0 same.1 ∙ sym (block_count_same header' body')))

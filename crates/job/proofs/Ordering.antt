@@ -7,16 +7,16 @@ use Rattle.message.specs.Blocks.{blocks, block_of_lengths, block_list}
 use Rattle.engine.specs.Chain.{Operation, resume, absorb, switch}
 use Rattle.job.specs.Cuts.{full_blocks, left_over}
 use Rattle.job.specs.Plain.{Answer, brought, accepted}
-use Rattle.job.specs.Runs.{new_blocks, last_block, operations_for, operations_of, run_operations, gathered, absorb_of, switch_of, resume_of, switch_answers, InOrder}
+use Rattle.job.specs.Runs.{new_blocks, final_block, operations_for, operations_of, run_operations, gathered, absorb_of, switch_of, resume_of, switch_answers, InOrder}
 use Rattle.job.specs.declared.call.Call.{Call}
 use Rattle.job.specs.declared.call.Call.TheVariants.{Feed, Switch}
-use Rattle.job.proofs.Answering.{new_blocks, no_new_blocks}
+use Rattle.job.proofs.Answering.{new_blocks_follow, no_new_blocks}
 use Rattle.job.proofs.Cutting.{full_append, blocks_full}
 
 -- ---- the blocks of a part
 
 full_new : (taken piece : List ℕ) → full_blocks (taken ++ piece) ≡ full_blocks taken ++ new_blocks taken piece
-full_new taken piece = full_append taken piece ∙ ap (λ ps. full_blocks taken ++ ps) (sym (new_blocks taken piece))
+full_new taken piece = full_append taken piece ∙ ap (λ ps. full_blocks taken ++ ps) (sym (new_blocks_follow taken piece))
 
 new_append : (taken xs ys : List ℕ) → new_blocks taken (xs ++ ys) ≡ new_blocks taken xs ++ new_blocks (taken ++ xs) ys
 new_append taken xs ys =
@@ -27,13 +27,13 @@ new_append taken xs ys =
     ∙ append_assoc (full_blocks taken) (new_blocks taken xs) rest)
     ∙ drop_at (full_blocks taken) (new_blocks taken xs ++ rest) n refl
 
-pub last_left : (taken : List ℕ) → last_block taken ≡ blocks (left_over taken)
+pub last_left : (taken : List ℕ) → final_block taken ≡ blocks (left_over taken)
 last_left taken =
     ap (drop (length (full_blocks taken))) (blocks_full taken)
     ∙ drop_at (full_blocks taken) (blocks (left_over taken)) (length (full_blocks taken)) refl
 
 -- all new blocks of a part, and the last
-whole_part : (taken : List ℕ) → new_blocks [] taken ++ last_block taken ≡ blocks taken
+whole_part : (taken : List ℕ) → new_blocks [] taken ++ final_block taken ≡ blocks taken
 unfolding full_blocks
 whole_part taken = ap (λ ps. full_blocks taken ++ ps) (last_left taken) ∙ sym (blocks_full taken)
 
@@ -94,25 +94,25 @@ in_order hs xs bs ys =
     let header : List ℕ = accepted hs xs in
     let body : List ℕ = accepted bs ys in
     let lengths : Block = block_of_lengths (length header) (length body) in
-    let ends : List Block = last_block body ++ (lengths ∷ []) in
+    let ends : List Block = final_block body ++ (lengths ∷ []) in
     record {
       resumes =
           ap (λ vs. block_ring.zero ∷ vs)
-          (four_parts resume_of (operations_of [] hs xs) (map absorb (last_block header)) (operations_of [] bs ys) (map absorb ends)
+          (four_parts resume_of (operations_of [] hs xs) (map absorb (final_block header)) (operations_of [] bs ys) (map absorb ends)
           ∙ ap₂ (λ us vs. us ++ vs) (resumes_in [] hs xs)
-          (ap₂ (λ us vs. us ++ vs) (none_of resume_of (λ p. refl) (last_block header))
+          (ap₂ (λ us vs. us ++ vs) (none_of resume_of (λ p. refl) (final_block header))
           (ap₂ (λ us vs. us ++ vs) (resumes_in [] bs ys) (none_of resume_of (λ p. refl) ends))));
       absorbs =
-          four_parts absorb_of (operations_of [] hs xs) (map absorb (last_block header)) (operations_of [] bs ys) (map absorb ends)
+          four_parts absorb_of (operations_of [] hs xs) (map absorb (final_block header)) (operations_of [] bs ys) (map absorb ends)
           ∙ ap₂ (λ us vs. us ++ vs) (absorbs_in [] hs xs)
-          (ap₂ (λ us vs. us ++ vs) (absorbs_of (last_block header))
+          (ap₂ (λ us vs. us ++ vs) (absorbs_of (final_block header))
           (ap₂ (λ us vs. us ++ vs) (absorbs_in [] bs ys) (absorbs_of ends)))
-          ∙ sym (append_assoc (new_blocks [] header) (last_block header) (new_blocks [] body ++ ends))
+          ∙ sym (append_assoc (new_blocks [] header) (final_block header) (new_blocks [] body ++ ends))
           ∙ ap₂ (λ us vs. us ++ vs) (whole_part header)
-          (sym (append_assoc (new_blocks [] body) (last_block body) (lengths ∷ [])) ∙ ap (λ us. us ++ (lengths ∷ [])) (whole_part body));
+          (sym (append_assoc (new_blocks [] body) (final_block body) (lengths ∷ [])) ∙ ap (λ us. us ++ (lengths ∷ [])) (whole_part body));
       switches =
-          four_parts switch_of (operations_of [] hs xs) (map absorb (last_block header)) (operations_of [] bs ys) (map absorb ends)
+          four_parts switch_of (operations_of [] hs xs) (map absorb (final_block header)) (operations_of [] bs ys) (map absorb ends)
           ∙ ap₂ (λ us vs. us ++ vs) (switches_in [] hs xs)
-          (ap₂ (λ us vs. us ++ vs) (none_of switch_of (λ p. refl) (last_block header))
+          (ap₂ (λ us vs. us ++ vs) (none_of switch_of (λ p. refl) (final_block header))
           (ap₂ (λ us vs. us ++ vs) (switches_in [] bs ys) (none_of switch_of (λ p. refl) ends) ∙ append-nil (switch_answers bs ys)));
     }

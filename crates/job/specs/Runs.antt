@@ -22,8 +22,8 @@ abbrev pub new_blocks : List ℕ → List ℕ → List Block
 new_blocks taken piece = drop (length (full_blocks taken)) (full_blocks (taken ++ piece))
 
 -- the last block of a part, where it is not full
-abbrev pub last_block : List ℕ → List Block
-last_block taken = drop (length (full_blocks taken)) (blocks taken)
+abbrev pub final_block : List ℕ → List Block
+final_block taken = drop (length (full_blocks taken)) (blocks taken)
 
 -- What the engine goes through for a call: the blocks that its piece fills, or the switch with its answer.
 abbrev pub operations_for : List ℕ → Call → Answer → List Operation
@@ -42,9 +42,9 @@ run_operations hs xs bs ys =
     let body : List ℕ = accepted bs ys in
     resume block_ring.zero
     ∷ (operations_of [] hs xs
-    ++ (map absorb (last_block header)
+    ++ (map absorb (final_block header)
     ++ (operations_of [] bs ys
-    ++ map absorb (last_block body ++ (block_of_lengths (length header) (length body) ∷ [])))))
+    ++ map absorb (final_block body ++ (block_of_lengths (length header) (length body) ∷ [])))))
 
 -- what each operation gives, joined
 abbrev pub gathered : {X : Type 0} → (Operation → List X) → List Operation → List X

@@ -1,4 +1,6 @@
 // Jobs: a header and a body, fed in pieces to an engine, and the hash and tag at the close.
+#![tactic(auto)]
+
 mod body;
 mod call;
 mod difference;

@@ -1,4 +1,6 @@
 // Calls for a C program: blocks cross as two numbers, refusals as negative ones.
+#![tactic(auto)]
+
 mod calls;
 mod scratch;
 mod seal;

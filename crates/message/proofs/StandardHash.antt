@@ -12,7 +12,7 @@ use Rattle.field.specs.Kinds.{block, block_ring}
 use Rattle.field.specs.declared.kinds.Block.{Block}
 use Rattle.field.proofs.Digits.{length_digits, digits_mod}
 use Rattle.field.proofs.Horner.{absorbed_eval}
-use Rattle.field.specs.Instances.{block_ring, block_sum_bits, block_product_bits}
+use Rattle.field.specs.Instances.{block_ring_laws, block_sum_bits, block_product_bits}
 use Rattle.message.specs.Blocks.{blocks_taken, filled, cut, blocks, block_of_lengths, block_list}
 use Rattle.message.specs.Hash.{hash_of, tag_of}
 use Rattle.message.specs.Standard.{bits, string, zeros, xor, product, ghash_from, ghash, padded, message, block_string, MeetsStandard}
@@ -58,13 +58,13 @@ ghash_blocks h ps =
     let count : length (joined ps) / 128 ≡ length ps = ap (λ (n : ℕ). n / 128) (length_joined ps) ∙ mul-div_cancel (length ps) (omega arith) in
     ap₂ (λ (y : List ℕ) (n : ℕ). ghash_from (block_string h) y n (joined ps)) zeros_bits count
     ∙ steps h block_ring.zero ps
-    ∙ ap block_string (absorbed_eval block_ring block_ring h [] ps)
+    ∙ ap block_string (absorbed_eval block_ring block_ring_laws h [] ps)
 
 -- ---- the string that is hashed
 
 -- a block of 16 bytes, as a string
-block_string : (xs : List ℕ) → AreBytes xs → length xs ≡ 16 → block_string (block_of xs) ≡ string xs
-block_string xs small sixteen =
+block_string_same : (xs : List ℕ) → AreBytes xs → length xs ≡ 16 → block_string (block_of xs) ≡ string xs
+block_string_same xs small sixteen =
     digits_mod 2 (lit< tt) 128 (numeral 256 xs)
     ∙ ap (λ (n : ℕ). bits (n * 8) (numeral 256 xs)) (sym sixteen)
     ∙ sym (string_number xs small)
@@ -97,7 +97,7 @@ small_digits (suc n) v (suc k) = small_digits n v k
 filled_string : (xs : List ℕ) → AreBytes xs → length xs ≤ 16 → block_string (block_of (filled xs)) ≡ string xs ++ zeros (8 * (16 - length xs))
 filled_string xs small short =
     let whole : length (filled xs) ≡ 16 = length-append xs (replicate (16 - length xs) 0) ∙ ap (λ (n : ℕ). length xs + n) (length-replicate (16 - length xs) 0) ∙ omega arith in
-    block_string (filled xs) (small_append xs (replicate (16 - length xs) 0) small (small_zeros (16 - length xs))) whole
+    block_string_same (filled xs) (small_append xs (replicate (16 - length xs) 0) small (small_zeros (16 - length xs))) whole
     ∙ string_append xs (replicate (16 - length xs) 0)
     ∙ ap (λ (s : List ℕ). string xs ++ s) (string_zeros (16 - length xs))
 
@@ -150,7 +150,7 @@ lengths_string header body =
     let bs : List ℕ = digits 256 8 (8 * length body) in
     let whole : length (hs ++ bs) ≡ 16 =
     length-append hs bs ∙ ap₂ (λ (m n : ℕ). m + n) (length_digits 256 8 (8 * length header)) (length_digits 256 8 (8 * length body)) in
-    block_string (hs ++ bs) (small_append hs bs (small_digits 8 (8 * length header)) (small_digits 8 (8 * length body))) whole
+    block_string_same (hs ++ bs) (small_append hs bs (small_digits 8 (8 * length header)) (small_digits 8 (8 * length body))) whole
     ∙ string_append hs bs
     ∙ ap₂ (λ (s t : List ℕ). s ++ t)
     (string_digits 8 (8 * length header) ∙ ap (bits 64) (sym (length_string header)))

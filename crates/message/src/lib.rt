@@ -1,4 +1,6 @@
 // A header and a body as blocks, and their hash and tag.
+#![tactic(auto)]
+
 mod absorb;
 mod digest;
 

@@ -1,4 +1,6 @@
 // Polynomials that a subkey annihilates: the trial of a proposal, and the maker.
+#![tactic(auto)]
+
 mod accepted;
 mod binary;
 mod blocks;

@@ -7,7 +7,7 @@ use Rattle.field.specs.Kinds.{nibble, block_ring, nibble_ring}
 use Rattle.field.specs.declared.kinds.Nibble.{Nibble}
 use Rattle.field.specs.declared.kinds.Block.{Block}
 use Rattle.field.proofs.Horner.{zero_product}
-use Rattle.field.specs.Instances.{same_block, same_nibble, same_word, block_ring}
+use Rattle.field.specs.Instances.{same_block, same_nibble, same_word, block_ring_laws}
 use Rattle.polynomial.specs.Polynomials.{stored, conjugates}
 use Rattle.message.specs.Blocks.{blocks, block_of_lengths}
 use Rattle.message.specs.Hash.{hash_of, tag_of}
@@ -21,8 +21,8 @@ empty_eval : (subkey : Block) → hash_of subkey [] [] ≡ block_ring.zero
 unfolding hash_of blocks
 empty_eval subkey =
     ap (λ (b : Block). eval block_ring subkey (b ∷ [])) no_lengths
-    ∙ ap (λ (b : Block). block_ring.sum b block_ring.zero) (zero_product block_ring block_ring (power block_ring subkey 1))
-    ∙ block_ring.sum_zero block_ring.zero
+    ∙ ap (λ (b : Block). block_ring.sum b block_ring.zero) (zero_product block_ring block_ring_laws (power block_ring subkey 1))
+    ∙ block_ring_laws.sum_zero block_ring.zero
 
 -- five coefficients, each one
 ones : conjugates nibble_ring (nibble 0b1000) 4 ≡ replicate 5 (nibble 0b0001)
@@ -50,8 +50,8 @@ table = record {
   empty_hash_row = λ subkey. empty_eval subkey ∙ same_block _ _ refl;
   empty_tag_row = λ subkey pad.
       ap (λ (b : Block). block_ring.sum b pad) (empty_eval subkey)
-      ∙ block_ring.sum_comm block_ring.zero pad
-      ∙ block_ring.sum_zero pad;
+      ∙ block_ring_laws.sum_comm block_ring.zero pad
+      ∙ block_ring_laws.sum_zero pad;
   body_only_row = same_block _ _ refl;
   header_only_row = same_block _ _ refl;
 }

@@ -1,4 +1,6 @@
 // A table of readings, worked out by the library's calls and proved of the definitions.
+#![tactic(auto)]
+
 ghost use Rattle.std.specs.Prelude.{◌≡◌, Ok};
 ghost use Rattle.field.specs.Kinds.{nibble, word};
 ghost use Rattle.message.specs.Answer.{answer};

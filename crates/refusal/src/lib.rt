@@ -1,4 +1,6 @@
 // Why a call says no: one case for each cause, with its number and its text.
+#![tactic(auto)]
+
 ghost use Rattle.std.specs.Prelude.{◌≡◌};
 ghost use Rattle.refusal.specs.Refusals.{number_of, place_of, text_of};
 

@@ -140,7 +140,7 @@ room_enough header body output n done =
     let few = passes (leb (blocks_for header body) 65536) _ _ _ short.1 in
     leb-true (512 * blocks_for header body) output (passes (leb (512 * blocks_for header body) output) _ _ _ few.1).0
 
-pub within_limits : (header body output n : ℕ) → Ok n ≡ room_answer header body output → (header ≤ 65535) × (blocks_for header body ≤ 65536)
-within_limits header body output n done =
+pub limits_kept : (header body output n : ℕ) → Ok n ≡ room_answer header body output → (header ≤ 65535) × (blocks_for header body ≤ 65536)
+limits_kept header body output n done =
     let short = passes (leb header 65535) _ _ _ done in
     (leb-true header 65535 short.0, leb-true (blocks_for header body) 65536 (passes (leb (blocks_for header body) 65536) _ _ _ short.1).0)

@@ -101,9 +101,9 @@ used_of_end b good end =
 
 -- ---- places
 
-pub previous_at : (file : List ℕ) (k : ℕ) → (k ≡ 0 → ⊥) → previous (block_at file (k - 1)) ≡ previous_at file k
-previous_at file zero some = absurd (some refl)
-previous_at file (suc k) some = let e : suc k - 1 ≡ k = omega arith in ap (λ (j : ℕ). previous (block_at file j)) e
+pub previous_at_place : (file : List ℕ) (k : ℕ) → (k ≡ 0 → ⊥) → previous (block_at file (k - 1)) ≡ previous_at file k
+previous_at_place file zero some = absurd (some refl)
+previous_at_place file (suc k) some = let e : suc k - 1 ≡ k = omega arith in ap (λ (j : ℕ). previous (block_at file j)) e
 
 pub bytes_left : (file : List ℕ) (n : ℕ) → (length (take (length file - n) (drop n file)) ≡ 0 → ⊥) → n < length file
 bytes_left file n some =

@@ -67,10 +67,10 @@ module _ {E : Type 0} (m : Ghosts E) where
         let going = going_on h given [] e j.filling t.filling taken piece Header Q a within record { holds = took.holds; hashed = took.hashed } said whole in
         record { holds = going.holds; hashed = going.hashed }
 
-    pub body_on : (j t : BodyJob E) (header : List ℕ) → length taken + length piece ≤ body_limit → BodyTook m h given e j header taken
+    pub body_goes_on : (j t : BodyJob E) (header : List ℕ) → length taken + length piece ≤ body_limit → BodyTook m h given e j header taken
         → (a ≡ feed_answer Body taken piece) × BodyHolds m h given t header (joined Body taken piece) → MatchResult a (λ _. Fed m j.filling piece t.filling) Q
         → BodyTook m h given e t header (taken ++ piece)
-    body_on j t header within took said whole =
+    body_goes_on j t header within took said whole =
         let going = going_on h given (blocks header) e j.filling t.filling taken piece Body Q a within record { holds = took.holds.holds; hashed = took.hashed } (said.0, said.1.holds) whole in
         record { holds = record { before = said.1.before; bytes = said.1.bytes; holds = going.holds }; hashed = going.hashed }
 

@@ -1,4 +1,6 @@
 // Sealed files: reading, writing and checking.
+#![tactic(auto)]
+
 mod checked;
 mod checking;
 mod collecting;

@@ -1,4 +1,6 @@
 // The station's program: its first word says what to do.
+#![tactic(auto)]
+
 mod polynomials;
 mod stop;
 mod tag;

@@ -1,4 +1,6 @@
 // Tags of whole messages by any engine: made, and checked.
+#![tactic(auto)]
+
 mod check;
 mod compare;
 mod hash;

@@ -1,4 +1,6 @@
 // Hashes the published GCM cases and compares, tries polynomials, and prints the readings that are proved.
+#![tactic(auto)]
+
 mod case;
 mod engines;
 mod trials;

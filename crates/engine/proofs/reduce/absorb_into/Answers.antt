@@ -1,7 +1,7 @@
 use Rattle.std.proofs.Common.{◌≡◌, ℕ, ◌<◌, Bool, List, [], ◌∷◌, ◌++◌, length, get_or, set, sym, ap, ◌∙◌, subst, arith, length-set}
 use Rattle.field.specs.Kinds.{block_ring}
 use Rattle.field.specs.declared.kinds.Block.{Block}
-use Rattle.field.specs.Instances.{block_ring, block_even}
+use Rattle.field.specs.Instances.{block_ring_laws, block_even}
 use Rattle.polynomial.specs.Blocks.{coefficients_of}
 use Rattle.polynomial.specs.Polynomials.{stored}
 use Rattle.engine.specs.Remainders.{Divided, sum_of, times_t}
@@ -20,6 +20,6 @@ returns c =
     add_constant block_ring old c.args.block c.index-state-0.result c.plus.result some c.index-state-0.is c.plus.ensures in
     let last : last_of block_ring.zero added ≡ c.index-state-127.result =
     last_at block_ring.zero c.index-state-127.result added 127 long ∙ sym c.index-state-127.is in
-    let divided = reduced_divided block_ring block_ring block_even c.index-state-127.result bits added 128 long last in
+    let divided = reduced_divided block_ring block_ring_laws block_even c.index-state-127.result bits added 128 long last in
     subst (λ (ws : List Block). Divided block_ring (times_t block_ring ws) divisor c.divide.new.state 128) with-block
     (subst (λ (rs : List Block). Divided block_ring (times_t block_ring added) divisor rs 128) (sym c.divide.ensures) divided)

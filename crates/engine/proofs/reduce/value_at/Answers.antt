@@ -2,7 +2,7 @@ use Rattle.std.proofs.Common.{◌≡◌, ℕ, ◌+◌, ◌-◌, ◌<◌, List, [
 use Rattle.std.proofs.lemmas.List.{drop_more, drop_all}
 use Rattle.field.specs.Kinds.{block_ring}
 use Rattle.field.specs.declared.kinds.Block.{Block}
-use Rattle.field.specs.Instances.{block_ring}
+use Rattle.field.specs.Instances.{block_ring_laws}
 use Rattle.polynomial.specs.Polynomials.{value_at}
 use Rattle.engine.proofs.RemainderValues.{value_cons}
 use Rattle.engine.proofs.reduce.value_at.Goals as goal
@@ -27,7 +27,7 @@ loop-j-preserved c =
     ∙ ap₂ (λ (x : Block) (n : ℕ). x ∷ drop n state) (sym c.index-state-state.is) on in
     c.plus-sum.ensures
     ∙ ap (block_ring.sum c.index-state-state.result) (c.times.ensures ∙ ap (block_ring.product c.args.key) c.loop-j.invariant)
-    ∙ sym (ap (value_at block_ring c.args.key) apart ∙ value_cons block_ring block_ring c.args.key c.index-state-state.result (drop (length state - j) state))
+    ∙ sym (ap (value_at block_ring c.args.key) apart ∙ value_cons block_ring block_ring_laws c.args.key c.index-state-state.result (drop (length state - j) state))
 
 pub returns : goal.returns
 returns c =

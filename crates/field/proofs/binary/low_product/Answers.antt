@@ -8,7 +8,7 @@ use Rattle.field.proofs.binary.low_product.Goals as goal
 
 pub loop-k-init : goal.loop-k-init
 unfolding multiplied shifted
-loop-k-init c = (refl, refl, c.requires.2, pow_pos c.args.width)
+loop-k-init c = (refl, refl, c.requires.b_bound, pow_pos c.args.width)
 
 pub overflow-mul-power : goal.overflow-mul-power
 overflow-mul-power c =
@@ -24,7 +24,7 @@ loop-k-preserved c =
     let kind : Kind = low_first width rest in
     let sum : ℕ = c.loop-k.sum in
     let power : ℕ = c.loop-k.power in
-    let wide : 1 + width ≤ 128 = omega (arith, c.requires.1) in
+    let wide : 1 + width ≤ 128 = omega (arith, c.requires.width_bound) in
     let limit : 1 * 2 ^ width % 2 ^ 128 ≡ 2 ^ width = shl_exact {a = 1} 1 width 128 (omega arith) wide ∙ one-mul (2 ^ width) in
     let added : bit_xor sum c.masked-sum.result ≡ bit_xor sum (part (kind.digit a k) power) =
     ap (bit_xor sum) (c.masked-sum.ensures ∙ ap (λ (d : ℕ). part d power) (and_mask (a / 2 ^ k) 1)) in
@@ -33,7 +33,7 @@ loop-k-preserved c =
     (c.masked.ensures ∙ ap (λ (d : ℕ). part d rest) (and_mask (power / 2 ^ (width - 1)) 1)) in (
       one_more_term kind k a c.args.b sum power _ c.loop-k.invariant.0 c.loop-k.invariant.1 added,
       one_more_power kind k a c.args.b power _ c.loop-k.invariant.1 stepped,
-      subst (λ (n : ℕ). n < 2 ^ width) (sym stepped) (low_fits width rest c.requires.3 power),
+      subst (λ (n : ℕ). n < 2 ^ width) (sym stepped) (low_fits width rest c.requires.rest_bound power),
       subst (λ (n : ℕ). n < 2 ^ width) (sym added)
           (xor_lt width sum (part (kind.digit a k) power) c.loop-k.invariant.3 (part_lt (kind.digit a k) power width c.loop-k.invariant.2)),
     )

@@ -4,7 +4,7 @@ use Rattle.field.specs.Evaluation.{absorbed}
 use Rattle.field.specs.Kinds.{word, word_ring}
 use Rattle.field.specs.declared.kinds.Word.{Word}
 use Rattle.field.proofs.Horner.{absorbed_eval}
-use Rattle.field.specs.Instances.{word_ring}
+use Rattle.field.specs.Instances.{word_ring_laws}
 use Rattle.format.specs.Layout.{pairs, check_of}
 use Rattle.format.proofs.check.block_check.Goals as goal
 
@@ -50,4 +50,4 @@ returns c =
     (sym (ap (λ (ns : List ℕ). absorbed word_ring key c.loop-pair.sum (map word ns)) (pairs_none left few))
     ∙ c.loop-pair.invariant.0
     ∙ ap (λ (k : Word). absorbed word_ring k word_ring.zero (map word (pairs bytes))) c.new-key.ensures
-    ∙ absorbed_eval word_ring word_ring (word 16807) [] (map word (pairs bytes)))
+    ∙ absorbed_eval word_ring word_ring_laws (word 16807) [] (map word (pairs bytes)))

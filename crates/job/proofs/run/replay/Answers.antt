@@ -5,7 +5,7 @@ use Rattle.engine.specs.Chain.{absorb, Chain}
 use Rattle.engine.proofs.Chains.{chain_append}
 use Rattle.job.specs.Jobs.{pending}
 use Rattle.job.specs.Plain.{Answer, accepted}
-use Rattle.job.specs.Runs.{last_block, operations_of}
+use Rattle.job.specs.Runs.{final_block, operations_of}
 use Rattle.job.specs.declared.call.Call.{Call}
 use Rattle.job.proofs.Ordering.{in_order, last_left}
 use Rattle.job.proofs.run.replay.Goals as goal
@@ -29,8 +29,8 @@ returns g c =
     let first = c.answer-all.ensures.answered h given [] [] c.start-job.ensures.holds in
     let turned = c.turn-job.ensures.holds h given header first.holds in
     let second = c.answer-all-2.ensures.answered h given (blocks header) [] turned.holds in
-    let last : List Block = last_block body ++ (block_of_lengths (length header) (length body) ∷ []) in
-    let turn : Chain m (map absorb (last_block header)) f.engine j.filling.engine =
+    let last : List Block = final_block body ++ (block_of_lengths (length header) (length body) ∷ []) in
+    let turn : Chain m (map absorb (final_block header)) f.engine j.filling.engine =
     subst (λ (ps : List Block). Chain m (map absorb ps) f.engine j.filling.engine) (ap blocks first.holds.left ∙ sym (last_left header)) c.turn-job.ensures.whole.hashed.chain in
     let lengths : block_of_lengths j.header t.count ≡ block_of_lengths (length header) (length body) = ap₂ block_of_lengths turned.before second.holds.count in
     let ends : blocks (pending t) ++ (block_of_lengths j.header t.count ∷ []) ≡ last =
@@ -46,7 +46,7 @@ returns g c =
         c.start-job.result.filling.engine,
         c.start-job.ensures.whole,
         chain_append m (operations_of [] hs xs) _ _ f.engine e first.chain
-            (chain_append m (map absorb (last_block header)) _ f.engine j.filling.engine e turn
+            (chain_append m (map absorb (final_block header)) _ f.engine j.filling.engine e turn
             (chain_append m (operations_of [] bs ys) (map absorb last) j.filling.engine t.engine e second.chain close)),
       );
       order = in_order hs xs bs ys;

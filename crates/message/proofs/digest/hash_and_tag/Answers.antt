@@ -4,7 +4,7 @@ use Rattle.field.specs.Evaluation.{eval, absorbed}
 use Rattle.field.specs.Kinds.{block_ring}
 use Rattle.field.specs.declared.kinds.Block.{Block}
 use Rattle.field.proofs.Horner.{absorbed_append, absorbed_eval}
-use Rattle.field.specs.Instances.{block_ring}
+use Rattle.field.specs.Instances.{block_ring_laws}
 use Rattle.refusal.specs.declared.Refusal.{Refusal}
 use Rattle.message.specs.Answer.{digest_of}
 use Rattle.message.specs.Blocks.{blocks_taken, blocks, block_of_lengths, block_list}
@@ -19,9 +19,9 @@ use Rattle.message.proofs.digest.hash_and_tag.Goals as goal
 in_order : (h : Block) (ps qs : List Block) (q : Block)
     → block_ring.product (block_ring.sum (absorbed block_ring h (absorbed block_ring h block_ring.zero ps) qs) q) h ≡ eval block_ring h (ps ++ (qs ++ (q ∷ [])))
 in_order h ps qs q =
-    sym (absorbed_append block_ring block_ring h (absorbed block_ring h block_ring.zero ps) qs (q ∷ []))
-    ∙ sym (absorbed_append block_ring block_ring h block_ring.zero ps (qs ++ (q ∷ [])))
-    ∙ absorbed_eval block_ring block_ring h [] (ps ++ (qs ++ (q ∷ [])))
+    sym (absorbed_append block_ring block_ring_laws h (absorbed block_ring h block_ring.zero ps) qs (q ∷ []))
+    ∙ sym (absorbed_append block_ring block_ring_laws h block_ring.zero ps (qs ++ (q ∷ [])))
+    ∙ absorbed_eval block_ring block_ring_laws h [] (ps ++ (qs ++ (q ∷ [])))
 
 count : (header body : List ℕ) → blocks_taken (length header) + blocks_taken (length body) + 1 ≡ length (block_list header body)
 count header body =

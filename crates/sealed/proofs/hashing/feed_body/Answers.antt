@@ -1,7 +1,7 @@
 use Rattle.std.proofs.Common.{◌≡◌, ℕ, ◌/◌, List, length, subst, arith}
 use Rattle.format.specs.Faults.{rows_of, data_of}
 use Rattle.sealed.specs.Feeding.{BodyTook}
-use Rattle.sealed.proofs.Running.{body_on}
+use Rattle.sealed.proofs.Running.{body_goes_on}
 use Rattle.sealed.proofs.Scans.{data_at_end, data_next}
 use Rattle.sealed.proofs.hashing.feed_body.Goals as goal
 
@@ -17,7 +17,7 @@ loop-k-preserved g c h given e header took =
     let so_far = c.loop-k.invariant h given e header took in
     let next = data_next 2 k 68719476704 file piece c.loop-k-test.true c.requires c.data-for.ensures in
     subst (λ (bytes : List ℕ). BodyTook m h given e t header bytes) next.1
-    (body_on m h given e taken piece (λ _. t ≡ j) c.feed.result j t header next.0 so_far (c.feed.ensures.holds h given header taken so_far.holds) c.feed.ensures.whole)
+    (body_goes_on m h given e taken piece (λ _. t ≡ j) c.feed.result j t header next.0 so_far (c.feed.ensures.holds h given header taken so_far.holds) c.feed.ensures.whole)
 
 pub returns : goal.returns
 returns g c h given e header took =

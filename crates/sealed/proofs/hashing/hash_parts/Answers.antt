@@ -1,5 +1,5 @@
 use Rattle.std.proofs.Common.{◌≡◌, ℕ, List, [], arith}
-use Rattle.sealed.proofs.Running.{body_none, body_on, header_none, header_on, ran_whole}
+use Rattle.sealed.proofs.Running.{body_none, body_goes_on, header_none, header_on, ran_whole}
 use Rattle.sealed.proofs.hashing.hash_parts.Goals as goal
 
 pub returns : goal.returns
@@ -21,7 +21,7 @@ returns g c =
     (c.feed.ensures.holds h given [] began.holds) c.feed.ensures.whole in
     let turned = body_none m h given b header (c.turn-job.ensures.holds h given header first.holds) in
     let second =
-    body_on m h given b.filling.engine [] body (λ _. t ≡ b) c.feed-2.result b t header (omega (arith, c.requires.few)) turned
+    body_goes_on m h given b.filling.engine [] body (λ _. t ≡ b) c.feed-2.result b t header (omega (arith, c.requires.few)) turned
     (c.feed-2.ensures.holds h given header [] turned.holds) c.feed-2.ensures.whole in
     let closes = c.close.ensures.closes h given header body second.holds in
     record {

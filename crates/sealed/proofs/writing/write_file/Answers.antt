@@ -8,7 +8,7 @@ use Rattle.format.specs.Layout.{block_bytes, content, contents, laid, pieces, se
 use Rattle.format.specs.Verdict.{after}
 use Rattle.format.proofs.Laws.{reopens}
 use Rattle.sealed.specs.declared.written.Sealed.{Sealed}
-use Rattle.sealed.proofs.Layers.{drop_further, room_enough, whole_laid, within_limits}
+use Rattle.sealed.proofs.Layers.{drop_further, room_enough, whole_laid, limits_kept}
 use Rattle.sealed.proofs.writing.write_file.Goals as goal
 
 abbrev done : ℕ → Block → Block → Result Sealed Refusal
@@ -41,7 +41,7 @@ returns g c =
     third.back ∙ drop_further (512 * k) end o₂ o₁ (omega arith) second.back ∙ drop_further (512 * n) end o₁ entry (omega (arith, second.next)) first.back in
     let kept : length o₃ ≡ length entry = c.put-block.auto.output ∙ c.put-part-next-2.auto.output ∙ c.put-part-next.auto.output in
     let enough = room_enough (length header) (length body) (length entry) c.in-Ok.count c.in-Ok.ensures in
-    let limits = within_limits (length header) (length body) (length entry) c.in-Ok.count c.in-Ok.ensures in
+    let limits = limits_kept (length header) (length body) (length entry) c.in-Ok.count c.in-Ok.ensures in
     let room : end ≤ length o₃ = omega (arith, kept, enough, first.next, second.next) in
     let size : end ≡ length file = sym (length-take-le end o₃ room) ∙ ap length written in
     record {

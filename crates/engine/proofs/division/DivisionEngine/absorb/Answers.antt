@@ -1,7 +1,7 @@
 use Rattle.std.proofs.Common.{◌≡◌, List, [], ◌∷◌, ◌++◌, sym, refl, ap, ◌∙◌, subst}
 use Rattle.field.specs.Kinds.{block_ring}
 use Rattle.field.specs.declared.kinds.Block.{Block}
-use Rattle.field.specs.Instances.{block_ring}
+use Rattle.field.specs.Instances.{block_ring_laws}
 use Rattle.polynomial.specs.Blocks.{coefficients_of}
 use Rattle.polynomial.specs.Polynomials.{value_at, stored}
 use Rattle.polynomial.specs.declared.accepted.Accepted.{Accepted}
@@ -15,11 +15,11 @@ stepped : (a : Accepted) (w e : List Block) (p : Block) → Divided block_ring (
     → value_at block_ring a.subkey e ≡ block_ring.product (block_ring.sum (value_at block_ring a.subkey w) p) a.subkey
 stepped a w e p divided =
     let h : Block = a.subkey in
-    remainder_value block_ring block_ring h (times_t block_ring (sum_of block_ring w (p ∷ []))) (divisor_of a) e 128 divided
-    (annihilated block_ring block_ring h 128 (coefficients_of a.coefficients) a.annihilates)
-    ∙ times_t_value block_ring block_ring h (sum_of block_ring w (p ∷ []))
-    ∙ ap (block_ring.product h) (constant_value block_ring block_ring h w p)
-    ∙ block_ring.product_comm h (block_ring.sum (value_at block_ring h w) p)
+    remainder_value block_ring block_ring_laws h (times_t block_ring (sum_of block_ring w (p ∷ []))) (divisor_of a) e 128 divided
+    (annihilated block_ring block_ring_laws h 128 (coefficients_of a.coefficients) a.annihilates)
+    ∙ times_t_value block_ring block_ring_laws h (sum_of block_ring w (p ∷ []))
+    ∙ ap (block_ring.product h) (constant_value block_ring block_ring_laws h w p)
+    ∙ block_ring_laws.product_comm h (block_ring.sum (value_at block_ring h w) p)
 
 pub returns : goal.returns
 returns c =

@@ -1,7 +1,7 @@
 use Rattle.std.proofs.Common.{◌≡◌, List, refl, ap, ◌∙◌}
 use Rattle.field.specs.Kinds.{block_ring}
 use Rattle.field.specs.declared.kinds.Block.{Block}
-use Rattle.field.specs.Instances.{block_ring}
+use Rattle.field.specs.Instances.{block_ring_laws}
 use Rattle.polynomial.specs.Polynomials.{value_at}
 use Rattle.engine.specs.declared.division.Division.{Division}
 use Rattle.engine.proofs.RemainderValues.{alone_value}
@@ -11,7 +11,7 @@ pub returns : goal.returns
 returns c = record {
   value =
       ap (value_at block_ring c.args.self.now.polynomial.subkey) c.constant-self.ensures
-      ∙ alone_value block_ring block_ring c.args.self.now.polynomial.subkey c.args.value 127;
+      ∙ alone_value block_ring block_ring_laws c.args.self.now.polynomial.subkey c.args.value 127;
   subkey = refl;
   ready = refl;
   whole = λ i. record { polynomial = c.args.self.now.polynomial; state = c.constant-self.ensures i };

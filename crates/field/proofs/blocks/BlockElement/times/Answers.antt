@@ -3,4 +3,4 @@ use Rattle.field.specs.Instances.{block_held}
 use Rattle.field.proofs.blocks.BlockElement.times.Goals as goal
 
 pub returns : goal.returns
-returns c = entered block_held _ _ c.block-product.ensures
+returns c = entered block_held _ _ c.block_product.ensures

@@ -11,8 +11,8 @@ returns c =
     let at : ℕ → ℕ = λ k. get_or c.args.bytes k 0 in
     let long : length c.args.bytes ≡ 16 = search rules in
     let small : AreDigits 256 (lit< tt) c.args.bytes = λ k. search rules in
-    let summed : c.from-be-bytes.result ≡ numeral 256 (spelled 16 at) = omega (arith, c.from-be-bytes.ensures) in
-    let made : c.from-be-bytes.result ≡ numeral 256 c.args.bytes =
+    let summed : c.from_be_bytes.result ≡ numeral 256 (spelled 16 at) = omega (arith, c.from_be_bytes.ensures) in
+    let made : c.from_be_bytes.result ≡ numeral 256 c.args.bytes =
     summed ∙ ap (numeral 256) (sym (spells c.args.bytes ∙ ap (λ (n : ℕ). spelled n at) long)) in
     record {
       value = entered block_held _ (numeral 256 c.args.bytes) made;

@@ -13,4 +13,4 @@ invariant-of-result c = (
 )
 
 pub returns : goal.returns
-returns c = entered nibble_held _ _ c.low-product.ensures
+returns c = entered nibble_held _ _ c.low_product.ensures
