@@ -1,5 +1,5 @@
 -- One turn of a loop that multiplies two polynomials over the bits.
-use Rattle.std.proofs.Common.{◌≡◌, ℕ, zero, suc, ◌+◌, ◌-◌, ◌*◌, ◌%◌, ◌^◌, ◌<◌, sym, refl, ap, ◌∙◌, ap₂, mod-eq_of_lt, one-mul, zero-mul, add-one, arith}
+use Rattle.std.proofs.Common.{◌≡◌, ℕ, zero, suc, ◌+◌, ◌-◌, ◌*◌, ◌^◌, ◌<◌, sym, ap, ◌∙◌, ap₂, mod-eq_of_lt, one-mul, zero-mul, add-one, arith}
 use lib.Bits.{bit_xor, bit_and, and_mask, and_zero_r}
 use Rattle.field.specs.Binary.{Kind, part, shifted, multiplied}
 

@@ -1,5 +1,5 @@
 -- The ring of a lawful kind of polynomials over the bits, held in any type of the numbers below 2 ^ width.
-use Rattle.std.specs.Prelude.{◌≡◌, ℕ, zero, ◌^◌, ◌<◌, bit_xor, refl}
+use Rattle.std.specs.Prelude.{◌≡◌, ℕ, zero, ◌^◌, bit_xor}
 use Rattle.std.proofs.Common.{sym, ap, ap₂, ◌∙◌, pow_pos}
 use Rattle.std.specs.Int.Bits.{xor_assoc, xor_self, xor_zero_r}
 use Rattle.std.proofs.lemmas.Nat.{xor_comm, xor_lt}

@@ -22,8 +22,8 @@ none_left cs i past = at_drop_all (first_bad i) cs i past
 abbrev told : Option ℕ → Result (Unit {0}) HexFault
 told place = unless_bad place tt
 
-pub returns-then-is-none : goal.returns-then-is-none
-returns-then-is-none c =
+pub returns-then-is_none : goal.returns-then-is_none
+returns-then-is_none c =
     sym (ap told (c.loop-at.invariant ∙ bad_here c.args.word.now c.loop-at.at (omega arith) (search rules)))
 
 pub loop-at-preserved : goal.loop-at-preserved

@@ -18,8 +18,8 @@ none_left [] short = refl
 none_left (last ∷ []) short = refl
 none_left (high ∷ (low ∷ rest)) short = absurd (omega arith)
 
-pub overflow-add-value : goal.overflow-add-value
-overflow-add-value c = omega (arith, value_lt (get_or c.in-Some.pair.now 0 0), value_lt (get_or c.in-Some.pair.now 1 0))
+pub overflow_add-value : goal.overflow_add-value
+overflow_add-value c = omega (arith, value_lt (get_or c.in-Some.pair.now 0 0), value_lt (get_or c.in-Some.pair.now 1 0))
 
 pub loop-pair-preserved : goal.loop-pair-preserved
 loop-pair-preserved c =

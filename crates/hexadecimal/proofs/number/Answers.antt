@@ -34,11 +34,11 @@ pub loop-c-init : goal.loop-c-init
 unfolding numeral
 loop-c-init c = refl
 
-pub overflow-mul-sum : goal.overflow-mul-sum
-overflow-mul-sum c = omega (arith, c.loop-c.invariant, room c.args.word.now c.loop-c.c-index c.loop-c-test.true c.requires)
+pub overflow_mul-sum : goal.overflow_mul-sum
+overflow_mul-sum c = omega (arith, c.loop-c.invariant, room c.args.word.now c.loop-c.c-index c.loop-c-test.true c.requires)
 
-pub overflow-add-sum : goal.overflow-add-sum
-overflow-add-sum c =
+pub overflow_add-sum : goal.overflow_add-sum
+overflow_add-sum c =
     let spare = room c.args.word.now c.loop-c.c-index c.loop-c-test.true c.requires in
     omega (arith, c.loop-c.invariant, spare, value_lt (get_or c.args.word.now c.loop-c.c-index 0))
 

@@ -11,5 +11,5 @@ unfolding numeral
 returns c =
     let one : c.one-one.result ≡ first 0x80 = c.one-one.ensures ∙ same_block _ _ refl in
     ap hash_in
-    (sym c.in-ok-hash-and-tag.was ∙ c.hash-and-tag.ensures.value
+    (sym c.in_ok-hash_and_tag.was ∙ c.hash_and_tag.ensures.value
     ∙ ap (λ (b : Block). answer b b c.args.header.now c.args.body.now) one)

@@ -24,14 +24,14 @@ pub returns : goal.returns
 returns c =
     let subkey : Block = c.args.subkey in
     let pad : Block = c.args.pad in
-    let nibbles = c.nibble-readings.ensures in
-    let words = c.word-readings.ensures in
-    let empty = inside_digest c.in-ok-empty.empty _ c.in-ok-empty.ensures.value in
-    let body = inside c.in-ok-hash-at-one.field-0 (hash_of (first 0x80) [] (0x80 ∷ [])) c.in-ok-hash-at-one.ensures ∙ table.body_only_row in
-    let header = inside c.in-ok-hash-at-one-2.field-0 (hash_of (first 0x80) (0x80 ∷ []) []) c.in-ok-hash-at-one-2.ensures ∙ table.header_only_row in
+    let nibbles = c.nibble_readings.ensures in
+    let words = c.word_readings.ensures in
+    let empty = inside_digest c.in_ok-empty.empty _ c.in_ok-empty.ensures.value in
+    let body = inside c.in_ok-hash_at_one.field-0 (hash_of (first 0x80) [] (0x80 ∷ [])) c.in_ok-hash_at_one.ensures ∙ table.body_only_row in
+    let header = inside c.in_ok-hash_at_one-2.field-0 (hash_of (first 0x80) (0x80 ∷ []) []) c.in_ok-hash_at_one-2.ensures ∙ table.header_only_row in
     let hash = ap (λ (d : Digest). d.hash) empty ∙ table.empty_hash_row subkey in
     let tag = ap (λ (d : Digest). d.tag) empty ∙ table.empty_tag_row subkey pad in
-    let block = c.block-reading.ensures in
+    let block = c.block_reading.ensures in
     record {
       table = table;
       value = ap done (λ i. record {

@@ -10,9 +10,9 @@ pub loop-k-init : goal.loop-k-init
 unfolding multiplied shifted
 loop-k-init c = (refl, refl, c.requires.b_bound, pow_pos c.args.width)
 
-pub overflow-mul-power : goal.overflow-mul-power
-overflow-mul-power c =
-    let short : 2 ^ c.args.width ≤ 2 ^ 8 = pow_mono c.requires.1 in
+pub overflow_mul-power : goal.overflow_mul-power
+overflow_mul-power c =
+    let short : 2 ^ c.args.width ≤ 2 ^ 8 = pow_mono c.requires.width_bound in
     record { fits = omega (arith, short, c.loop-k.invariant.2) }
 
 pub loop-k-preserved : goal.loop-k-preserved

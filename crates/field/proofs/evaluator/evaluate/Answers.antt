@@ -1,4 +1,4 @@
-use Rattle.std.proofs.Common.{◌≡◌, ap, ◌∙◌, arith, take_all, rules}
+use Rattle.std.proofs.Common.{ap, ◌∙◌, arith, take_all, rules}
 use Rattle.field.specs.Evaluation.{eval}
 use Rattle.field.proofs.Horner.{eval_next}
 use Rattle.field.proofs.evaluator.evaluate.Goals as goal

@@ -18,12 +18,12 @@ told : (h h' p p' : Block) (z : ℤ) → h ≡ h' → p ≡ p' → SFits w32 z �
 told h h' p p' z same same' fits tried =
     subst (Tried h' p') (sym (to_z-of_z fits)) (subst (λ (b : Block). Tried b p' z) same (subst (λ (b : Block). Tried h b z) same' tried))
 
-pub returns-then-bits-in-ne0 : goal.returns-then-bits-in-ne0
-returns-then-bits-in-ne0 c =
+pub returns-then-bits_in-ne0 : goal.returns-then-bits_in-ne0
+returns-then-bits_in-ne0 c =
     let scratch : List Block = replicate 128 c.zero-scratch.result in
-    absurd (c.if-bits-in-ne0.true (c.bits-in.ensures ∙ ap (bits_from 0) c.try-in-answer.ensures.scratch ∙ no_bits 128 scratch (lit≤ tt)))
+    absurd (c.if-bits_in-ne0.true (c.bits_in.ensures ∙ ap (bits_from 0) c.try_in-answer.ensures.scratch ∙ no_bits 128 scratch (lit≤ tt)))
 
 pub returns : goal.returns
 returns c =
-    told c.from-halves-subkey.result _ c.from-halves-proposal.result _ c.try-in-answer.result
-    c.from-halves-subkey.ensures c.from-halves-proposal.ensures (record { sfits = c.try-in-answer.type-inv }) c.try-in-answer.ensures.value
+    told c.from_halves-subkey.result _ c.from_halves-proposal.result _ c.try_in-answer.result
+    c.from_halves-subkey.ensures c.from_halves-proposal.ensures (record { sfits = c.try_in-answer.type_inv }) c.try_in-answer.ensures.value

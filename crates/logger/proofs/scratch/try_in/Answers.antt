@@ -13,13 +13,13 @@ small n most = omega arith
 few : (proposal : Block) (weight : ℕ) → weight ≡ ones_below 128 (coefficients_of proposal) → weight < 2 ^ 31
 few proposal weight counted = subst (λ (n : ℕ). n < 2 ^ 31) (sym counted) (small _ (ones_at_most 128 (coefficients_of proposal)))
 
-pub overflow-cast-result : goal.overflow-cast-result
-overflow-cast-result c = record { sfits = few c.args.proposal c.in-Ok.trial.weight c.in-Ok.ensures.value.4 }
+pub overflow_cast-result : goal.overflow_cast-result
+overflow_cast-result c = record { sfits = few c.args.proposal c.in-Ok.trial.weight c.in-Ok.ensures.value.4 }
 
 pub returns-in-Ok : goal.returns-in-Ok
 returns-in-Ok c =
     let tried = c.in-Ok.ensures.value in
     record {
       value = inl (tried.1, to_z_pos w32 (few c.args.proposal c.in-Ok.trial.weight tried.4) ∙ ap pos tried.4);
-      scratch = c.try-polynomial.ensures.scratch ∙ cond-false _ _ _ (le-ltb (length c.args.scratch.now) 128 c.requires);
+      scratch = c.try_polynomial.ensures.scratch ∙ cond-false _ _ _ (le-ltb (length c.args.scratch.now) 128 c.requires);
     }

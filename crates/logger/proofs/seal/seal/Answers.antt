@@ -34,21 +34,21 @@ returns c =
     let header : List ℕ = c.args.header.now in
     let body : List ℕ = c.args.body.now in
     let output : List ℕ = c.args.output.now in
-    let tagged : Tagged = c.in-ok-tagged.tagged in
+    let tagged : Tagged = c.in_ok-tagged.tagged in
     let hash : List ℕ = bytes_of (hash_of subkey header body) in
     let tag : List ℕ = bytes_of (tag_of subkey pad header body) in
-    let said = c.in-ok-tagged.ensures.answer in
+    let said = c.in_ok-tagged.ensures.answer in
     let same : tagged ≡ tagged_of subkey pad header body =
     accepted_value header body tagged (tagged_of c.new-engine.result.subkey pad header body) said
     ∙ ap (λ (e : Step). tagged_of e.subkey pad header body) c.new-engine.ensures in
-    let first : c.copy-from-slice.new.self ≡ hash =
-    c.copy-from-slice.ensures.after ∙ c.to-bytes.ensures.value ∙ ap (λ (t : Tagged). bytes_of t.hash) same in
-    let second : c.copy-from-slice-2.new.self ≡ tag =
-    c.copy-from-slice-2.ensures.after ∙ c.to-bytes-2.ensures.value ∙ ap (λ (t : Tagged). bytes_of t.tag) same in
+    let first : c.copy_from_slice.new.self ≡ hash =
+    c.copy_from_slice.ensures.after ∙ c.to_bytes.ensures.value ∙ ap (λ (t : Tagged). bytes_of t.hash) same in
+    let second : c.copy_from_slice-2.new.self ≡ tag =
+    c.copy_from_slice-2.ensures.after ∙ c.to_bytes-2.ensures.value ∙ ap (λ (t : Tagged). bytes_of t.tag) same in
     let accepted : ok ≡ seal_answer header body output =
     sym (cond-false _ _ _ (le-ltb (length output) 32 (omega arith)))
     ∙ after_lengths (cond (ltb (length output) 32) (Err OutputTooShort) ok) header body tt ok
-    (sym c.in-ok-check-lengths.was ∙ c.check-lengths.ensures) in
+    (sym c.in_ok-check_lengths.was ∙ c.check_lengths.ensures) in
     record {
       answer = accepted;
       output =

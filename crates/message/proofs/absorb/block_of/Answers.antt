@@ -8,8 +8,8 @@ pub returns-then-piece-lt16 : goal.returns-then-piece-lt16
 returns-then-piece-lt16 c =
     let piece : List ℕ = c.args.piece.now in
     let short : length piece ≤ 16 = omega arith in
-    c.from-bytes.ensures.value
-    ∙ ap block_of (ap₂ (λ (xs ys : List ℕ). xs ++ ys) c.copy-from-slice.ensures.after (drop-replicate (length piece) 16 0))
+    c.from_bytes.ensures.value
+    ∙ ap block_of (ap₂ (λ (xs ys : List ℕ). xs ++ ys) c.copy_from_slice.ensures.after (drop-replicate (length piece) 16 0))
     ∙ ap (λ (xs : List ℕ). block_of (filled xs)) (sym (take_all 16 piece short))
 
 pub returns : goal.returns
@@ -17,6 +17,6 @@ returns c =
     let piece : List ℕ = c.args.piece.now in
     let long : length (take 16 piece) ≡ 16 = length-take-le 16 piece c.if-piece-lt16.false in
     let full : 16 - length (take 16 piece) ≡ 0 = omega (arith, long) in
-    c.from-bytes-2.ensures.value
-    ∙ ap block_of (c.copy-from-slice-2.ensures.after ∙ sym (append-nil (take 16 piece)))
+    c.from_bytes-2.ensures.value
+    ∙ ap block_of (c.copy_from_slice-2.ensures.after ∙ sym (append-nil (take 16 piece)))
     ∙ ap (λ (n : ℕ). block_of (take 16 piece ++ replicate n 0)) (sym full)

@@ -7,7 +7,7 @@ pub returns : goal.returns
 returns c =
     let piece : List ℕ = c.args.piece.now in
     let whole : 16 - (length piece - 0) ≡ 16 - length piece = omega arith in
-    c.from-bytes.ensures.value
+    c.from_bytes.ensures.value
     ∙ ap block_of
-    (ap₂ (λ (xs ys : List ℕ). xs ++ ys) c.copy-from-slice.ensures.after
+    (ap₂ (λ (xs ys : List ℕ). xs ++ ys) c.copy_from_slice.ensures.after
     (drop-replicate (length piece - 0) 16 0 ∙ ap (λ (n : ℕ). replicate n 0) whole))

@@ -39,22 +39,22 @@ returns c =
     let pad : Block = c.args.pad in
     let header : List ℕ = c.args.header.now in
     let body : List ℕ = c.args.body.now in
-    let first : c.absorb-part-after-header.result ≡ absorbed block_ring subkey block_ring.zero (blocks header) =
-    c.absorb-part-after-header.ensures ∙ ap (λ (v : Block). absorbed block_ring subkey v (blocks header)) c.zero.ensures in
-    let second : c.absorb-part-after-body.result ≡ absorbed block_ring subkey (absorbed block_ring subkey block_ring.zero (blocks header)) (blocks body) =
-    c.absorb-part-after-body.ensures ∙ ap (λ (v : Block). absorbed block_ring subkey v (blocks body)) first in
+    let first : c.absorb_part-after-header.result ≡ absorbed block_ring subkey block_ring.zero (blocks header) =
+    c.absorb_part-after-header.ensures ∙ ap (λ (v : Block). absorbed block_ring subkey v (blocks header)) c.zero.ensures in
+    let second : c.absorb_part-after-body.result ≡ absorbed block_ring subkey (absorbed block_ring subkey block_ring.zero (blocks header)) (blocks body) =
+    c.absorb_part-after-body.ensures ∙ ap (λ (v : Block). absorbed block_ring subkey v (blocks body)) first in
     let hashed : c.times-hash.result ≡ hash_of subkey header body =
     c.times-hash.ensures
-    ∙ ap (λ (v : Block). block_ring.product v subkey) (c.plus.ensures ∙ ap₂ block_ring.sum second c.length-block.ensures)
+    ∙ ap (λ (v : Block). block_ring.product v subkey) (c.plus.ensures ∙ ap₂ block_ring.sum second c.length_block.ensures)
     ∙ in_order subkey (blocks header) (blocks body) (block_of_lengths header body) in
     let tagged : c.plus-2.result ≡ tag_of subkey pad header body =
     c.plus-2.ensures ∙ ap (λ (v : Block). block_ring.sum v pad) hashed in
-    let counted : c.blocks-in.result + c.blocks-in-2.result + 1 ≡ length (block_list header body) =
-    ap₂ (λ (m n : ℕ). m + n + 1) c.blocks-in.ensures c.blocks-in-2.ensures ∙ count header body in
-    let made : ◌≡◌ {A = Digest} (record { hash = c.times-hash.result; tag = c.plus-2.result; blocks = c.blocks-in.result + c.blocks-in-2.result + 1 }) (digest_of subkey pad header body) =
+    let counted : c.blocks_in.result + c.blocks_in-2.result + 1 ≡ length (block_list header body) =
+    ap₂ (λ (m n : ℕ). m + n + 1) c.blocks_in.ensures c.blocks_in-2.ensures ∙ count header body in
+    let made : ◌≡◌ {A = Digest} (record { hash = c.times-hash.result; tag = c.plus-2.result; blocks = c.blocks_in.result + c.blocks_in-2.result + 1 }) (digest_of subkey pad header body) =
     λ i. record { hash = hashed i; tag = tagged i; blocks = counted i } in
-    let small = λ (k : ℕ). (c.type-inv.header k).fits in
-    let small' = λ (k : ℕ). (c.type-inv.body k).fits in
+    let small = λ (k : ℕ). (c.type_inv.header k).fits in
+    let small' = λ (k : ℕ). (c.type_inv.body k).fits in
     record {
       value =
           ap taken made

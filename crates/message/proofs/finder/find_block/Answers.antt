@@ -9,9 +9,9 @@ pub returns-then-n-before : goal.returns-then-n-before
 returns-then-n-before c =
     let header : List ℕ = c.args.header.now in
     let body : List ℕ = c.args.body.now in
-    let place = place_in_header header body c.args.n (omega (arith, c.blocks-in-before.ensures, c.if-n-before.true)) in
+    let place = place_in_header header body c.args.n (omega (arith, c.blocks_in-before.ensures, c.if-n-before.true)) in
     record {
-      answer = (place, c.piece-at.ensures ∙ ap (bytes_at header body) (sym place));
+      answer = (place, c.piece_at.ensures ∙ ap (bytes_at header body) (sym place));
       law = covered header body;
     }
 
@@ -19,14 +19,14 @@ pub returns-then-n-before-2 : goal.returns-then-n-before-2
 returns-then-n-before-2 c =
     let header : List ℕ = c.args.header.now in
     let body : List ℕ = c.args.body.now in
-    let before = c.blocks-in-before.ensures in
-    let inside = c.blocks-in.ensures in
+    let before = c.blocks_in-before.ensures in
+    let inside = c.blocks_in.ensures in
     let place =
     place_in_body header body c.args.n (omega (arith, before, c.if-n-before.false))
     (omega (arith, before, inside, c.if-n-before.false, c.if-n-before-2.true))
     ∙ ap (λ (k : ℕ). Some (Body, 16 * (c.args.n - k))) (sym before) in
     record {
-      answer = (place, c.piece-at-then-n-before-2.ensures ∙ ap (bytes_at header body) (sym place));
+      answer = (place, c.piece_at-then-n-before-2.ensures ∙ ap (bytes_at header body) (sym place));
       law = covered header body;
     }
 
@@ -35,6 +35,6 @@ returns c =
     let header : List ℕ = c.args.header.now in
     let body : List ℕ = c.args.body.now in
     record {
-      answer = no_place header body c.args.n (omega (arith, c.blocks-in-before.ensures, c.blocks-in.ensures, c.if-n-before.false, c.if-n-before-2.false));
+      answer = no_place header body c.args.n (omega (arith, c.blocks_in-before.ensures, c.blocks_in.ensures, c.if-n-before.false, c.if-n-before-2.false));
       law = covered header body;
     }

@@ -14,6 +14,6 @@ returns g c =
     let long = length_lower m c.args.subkey width in
     let front : take width c.expand.new.scratch ≡ low = ap (take width) c.expand.ensures ∙ take_at low after width long in
     record {
-      value = subst (λ (xs : List g.row.K.Denot). MatchOption c.read-bits.result (SomeNeither m xs) (λ p. stored m width (g.K.Binary.bits p) ≡ xs)) front c.read-bits.ensures;
+      value = subst (λ (xs : List g.row.K.Denot). MatchOption c.read_bits.result (SomeNeither m xs) (λ p. stored m width (g.K.Binary.bits p) ≡ xs)) front c.read_bits.ensures;
       rest = ap (drop width) c.expand.ensures ∙ drop_at low after width long;
     }

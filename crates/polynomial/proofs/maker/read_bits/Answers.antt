@@ -4,7 +4,7 @@ use Rattle.std.proofs.lemmas.List.{get_or_read, get_or-take, length-take-le}
 use Rattle.polynomial.specs.Polynomials.{stored, element}
 use Rattle.polynomial.proofs.Reading.{ReadTo, read_zero, read_one, one_from_sum, sum_from_one}
 use Rattle.polynomial.proofs.maker.read_bits.Goals as goal
-use Rattle.polynomial.proofs.maker.read_bits.Goals.{then-not-is-zero+else-not-is-zero-2, else-not-is-zero}
+use Rattle.polynomial.proofs.maker.read_bits.Goals.{then-not-is_zero+else-not-is_zero-2, else-not-is_zero}
 
 pub loop-k-init : goal.loop-k-init
 loop-k-init g c = (
@@ -22,20 +22,20 @@ loop-k-preserved g c =
     let below : k < g.K.Binary.width = omega (arith, c.width-k-end.ensures) in
     let within : k < length xs = omega (arith, c.requires) in
     let read = sym (get_or_read xs k c.index-coefficients-k.result within c.index-coefficients-k.is m.zero) in
-    elim c.if-not-is-zero.branch [
-      | then-not-is-zero+else-not-is-zero-2 w ↦
-          let sum = sym (w.plus.ensures ∙ ap (m.sum c.index-coefficients-k.result) w.one.ensures) ∙ w.if-not-is-zero-2.ensures in
+    elim c.if-not-is_zero.branch [
+      | then-not-is_zero+else-not-is_zero-2 w ↦
+          let sum = sym (w.plus.ensures ∙ ap (m.sum c.index-coefficients-k.result) w.one.ensures) ∙ w.if-not-is_zero-2.ensures in
           let one = one_from_sum m ring even c.index-coefficients-k.result sum in
           subst (λ p. ReadTo m ring even xs (k + 1) (g.K.Binary.bits p)) (sym w.proposal-is)
           (read_one m ring even xs g.K.Binary.width k (g.K.Binary.bits c.loop-k.proposal) (g.K.Binary.bits w.flip-proposal.result)
           below c.loop-k.invariant (read ∙ one) w.flip-proposal.ensures)
-      | else-not-is-zero w ↦
+      | else-not-is_zero w ↦
           subst (λ p. ReadTo m ring even xs (k + 1) (g.K.Binary.bits p)) (sym w.proposal-is)
-          (read_zero m ring even xs k (g.K.Binary.bits c.loop-k.proposal) c.loop-k.invariant (read ∙ w.if-not-is-zero.ensures))
+          (read_zero m ring even xs k (g.K.Binary.bits c.loop-k.proposal) c.loop-k.invariant (read ∙ w.if-not-is_zero.ensures))
     ]
 
-pub returns-then-not-is-zero-2 : goal.returns-then-not-is-zero-2
-returns-then-not-is-zero-2 g c =
+pub returns-then-not-is_zero-2 : goal.returns-then-not-is_zero-2
+returns-then-not-is_zero-2 g c =
     let m = g.K.Element in
     let xs : List g.row.K.Denot = c.args.coefficients.now in
     let k : ℕ = c.loop-k.k in
@@ -46,8 +46,8 @@ returns-then-not-is-zero-2 g c =
     let read = get_or_read xs k c.index-coefficients-k.result within c.index-coefficients-k.is m.zero ∙ sym (get_or-take width xs k m.zero below) in (
       k,
       subst (λ n. k < n) (sym long) below,
-      λ zero. c.if-not-is-zero.ensures (read ∙ zero),
-      λ one. c.if-not-is-zero-2.ensures
+      λ zero. c.if-not-is_zero.ensures (read ∙ zero),
+      λ one. c.if-not-is_zero-2.ensures
           (c.plus.ensures ∙ ap (m.sum c.index-coefficients-k.result) c.one.ensures
           ∙ sum_from_one m g.met.K.Element.ring g.met.K.Binary.even c.index-coefficients-k.result (read ∙ one)),
     )

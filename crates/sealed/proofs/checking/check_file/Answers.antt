@@ -22,7 +22,7 @@ returns-in-Err g c =
     let said = ap (λ (r : Result Lengths Refusal). after r (λ _. tagged)) c.in-Err.ensures ∙ sym (verdict_after h c.args.pad file) in
     record {
       answer = said;
-      exact = subst (λ (r : Result Lengths Refusal). Exact h c.args.pad file r) (sym said) (exact h c.args.pad file (λ k. (c.type-inv.file k).fits));
+      exact = subst (λ (r : Result Lengths Refusal). Exact h c.args.pad file r) (sym said) (exact h c.args.pad file (λ k. (c.type_inv.file k).fits));
       engine = untouched m c.args.engine c.args.engine file c.in-Err.refusal c.in-Err.ensures;
     }
 
@@ -35,19 +35,19 @@ returns g c =
     let h : Block = m.subkey_of e in
     let tagged : Result Lengths Refusal = tag_verdict h pad file in
     let pass = passed file c.in-Ok.lengths c.in-Ok.ensures in
-    let stored : c.stored-tag-stored.result ≡ numeral 256 (tag_in file) =
-    c.stored-tag-stored.ensures ∙ ap (numeral 256) (tag_stored file c.in-Ok.lengths pass (sized file pass.size)) in
-    let same : eqb c.stored-tag-stored.result c.hash-file-engine.result.tag.bits ≡ eqb (numeral 256 (tag_in file)) (tag_of h pad (header_in file) (body_in file)).bits =
-    ap₂ (λ (n : ℕ) (t : Block). eqb n t.bits) stored c.hash-file-engine.ensures.tag in
+    let stored : c.stored_tag-stored.result ≡ numeral 256 (tag_in file) =
+    c.stored_tag-stored.ensures ∙ ap (numeral 256) (tag_stored file c.in-Ok.lengths pass (sized file pass.size)) in
+    let same : eqb c.stored_tag-stored.result c.hash_file-engine.result.tag.bits ≡ eqb (numeral 256 (tag_in file)) (tag_of h pad (header_in file) (body_in file)).bits =
+    ap₂ (λ (n : ℕ) (t : Block). eqb n t.bits) stored c.hash_file-engine.ensures.tag in
     let said =
-    c.compare-tags.ensures
+    c.compare_tags.ensures
     ∙ ap₂ (λ (t : Bool) (r : Result Lengths Refusal). cond t r (Err TagDiffers)) same pass.answer
     ∙ ap (λ (r : Result Lengths Refusal). after r (λ _. tagged)) c.in-Ok.ensures
     ∙ sym (verdict_after h pad file) in
     record {
       answer = said;
-      exact = subst (λ (r : Result Lengths Refusal). Exact h pad file r) (sym said) (exact h pad file (λ k. (c.type-inv.file k).fits));
+      exact = subst (λ (r : Result Lengths Refusal). Exact h pad file r) (sym said) (exact h pad file (λ k. (c.type_inv.file k).fits));
       engine =
-          subst (λ (r : Result Lengths Refusal). EngineAfter m e file r c.hash-file-engine.result.engine) (sym c.compare-tags.ensures)
-          (hashed_file m e c.hash-file-engine.result.engine file _ c.in-Ok.lengths c.hash-file-engine.ensures.ran);
+          subst (λ (r : Result Lengths Refusal). EngineAfter m e file r c.hash_file-engine.result.engine) (sym c.compare_tags.ensures)
+          (hashed_file m e c.hash_file-engine.result.engine file _ c.in-Ok.lengths c.hash_file-engine.ensures.ran);
     }

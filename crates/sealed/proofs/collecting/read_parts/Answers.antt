@@ -14,16 +14,16 @@ use Rattle.sealed.proofs.collecting.read_parts.Goals as goal
 abbrev failed : ReadFault → Result Parts ReadFault
 failed e = Err e
 
-pub returns-in-err-item : goal.returns-in-err-item
-returns-in-err-item c =
+pub returns-in_err-item : goal.returns-in_err-item
+returns-in_err-item c =
     let file : List ℕ = c.args.file.now in
     let k : ℕ = c.loop-parts.reader.place in
     let t : ℕ = c.next.new.self.place in
-    let e : Refusal = c.in-err-item.field-0.0 in
+    let e : Refusal = c.in_err-item.field-0.0 in
     let inv = c.loop-parts.invariant in
     let came = err_from_is_err_and c.from-residual.result c.from-residual.ensures.1 in
     let within : 512 * k ≤ length file = subst (λ (xs : List ℕ). 512 * k ≤ length xs) inv.0 c.loop-parts.reader.within in
-    let read = subst (λ (xs : List ℕ). Read xs k t (Err e)) inv.0 c.in-err-item.ensures.read in
+    let read = subst (λ (xs : List ℕ). Read xs k t (Err e)) inv.0 c.in_err-item.ensures.read in
     subst (λ (r : Result Parts ReadFault). Collected file r) (sym (came.1 ∙ ap failed came.2)) (refused file k inv.1 e within read.0)
 
 pub loop-parts-preserved : goal.loop-parts-preserved
@@ -33,11 +33,11 @@ loop-parts-preserved c =
     let t : ℕ = c.next.new.self.place in
     let item : Item = c.in-Some.item in
     let inv = c.loop-parts.invariant in
-    let said = c.in-ok-item.ensures in
+    let said = c.in_ok-item.ensures in
     let read =
     subst (λ (o : Option Item). Read file k t (Ok o)) c.in-Some.is
-    (subst (λ (xs : List ℕ). Read xs k t (Ok c.in-ok-item.field-0)) inv.0 said.read) in
-    let kept = c.in-ok-keep.ensures in
+    (subst (λ (xs : List ℕ). Read xs k t (Ok c.in_ok-item.field-0)) inv.0 said.read) in
+    let kept = c.in_ok-keep.ensures in
     let next : suc k ≡ t = sym read.3 in (
       said.file ∙ inv.0,
       subst (Reached file) next (reach_more file k inv.1 read.0 read.1),
@@ -52,8 +52,8 @@ returns c =
     let t : ℕ = c.next.new.self.place in
     let inv = c.loop-parts.invariant in
     let read =
-    subst (λ (o : Option Item). Read file k t (Ok o)) c.in-default.is
-    (subst (λ (xs : List ℕ). Read xs k t (Ok c.in-ok-item.field-0)) inv.0 c.in-ok-item.ensures.read) in
+    subst (λ (o : Option Item). Read file k t (Ok o)) c.in_default.is
+    (subst (λ (xs : List ℕ). Read xs k t (Ok c.in_ok-item.field-0)) inv.0 c.in_ok-item.ensures.read) in
     let end : k ≡ length file / 512 = omega (arith, read.1) in (
       answer_at_end file k inv.1 read.1 ∙ ap (λ (o : Option Refusal). on_fault o (Ok tt)) read.0,
       inv.2 ∙ data_at_end 1 k file end,

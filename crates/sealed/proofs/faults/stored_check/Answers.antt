@@ -6,6 +6,6 @@ use Rattle.sealed.proofs.faults.stored_check.Goals as goal
 
 pub returns : goal.returns
 returns c =
-    let copied = c.copy-from-slice.ensures in
-    c.from-be-bytes.ensures ∙ sym (four_bytes c.copy-from-slice.new.self copied.len)
+    let copied = c.copy_from_slice.ensures in
+    c.from_be_bytes.ensures ∙ sym (four_bytes c.copy_from_slice.new.self copied.len)
     ∙ ap (numeral 256) (copied.after ∙ take_rest c.args.block.now 508)

@@ -8,8 +8,8 @@ use Rattle.sealed.proofs.hashing.data_for.Goals as goal
 pub returns : goal.returns
 returns c =
     let b : List ℕ = c.args.block.now in
-    let named = c.read-prefix.ensures.bytes in
+    let named = c.read_prefix.ensures.bytes in
     let same = sym (ap (λ (p : Prefix). p.kind) named) ∙ c.if-prefix-kind.false in
-    take_min c.read-prefix.result.0.used c.min-end.result c.read-prefix.result.1.now c.min-end.ensures
-    ∙ ap₂ (λ (n : ℕ) (xs : List ℕ). take n xs) (ap (λ (p : Prefix). p.used) named) c.read-prefix.ensures.rest
+    take_min c.read_prefix.result.0.used c.min-end.result c.read_prefix.result.1.now c.min-end.ensures
+    ∙ ap₂ (λ (n : ℕ) (xs : List ℕ). take n xs) (ap (λ (p : Prefix). p.used) named) c.read_prefix.ensures.rest
     ∙ sym (cond-true _ _ _ (eq-eqb (kind_in b) c.args.kind same))

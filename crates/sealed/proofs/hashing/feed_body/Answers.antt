@@ -13,9 +13,9 @@ loop-k-preserved g c h given e header took =
     let j = c.loop-k.job in
     let t = c.feed.new.self in
     let taken : List ℕ = data_of 2 (rows_of k file) in
-    let piece : List ℕ = c.data-for.result.now in
+    let piece : List ℕ = c.data_for.result.now in
     let so_far = c.loop-k.invariant h given e header took in
-    let next = data_next 2 k 68719476704 file piece c.loop-k-test.true c.requires c.data-for.ensures in
+    let next = data_next 2 k 68719476704 file piece c.loop-k-test.true c.requires c.data_for.ensures in
     subst (λ (bytes : List ℕ). BodyTook m h given e t header bytes) next.1
     (body_goes_on m h given e taken piece (λ _. t ≡ j) c.feed.result j t header next.0 so_far (c.feed.ensures.holds h given header taken so_far.holds) c.feed.ensures.whole)
 

@@ -9,17 +9,17 @@ returns c =
     let kind : ℕ = c.args.kind in
     let bytes : List ℕ = c.args.data.now in
     let size : ℕ = length bytes in
-    let w₁ : List ℕ = c.copy-from-slice.new.self in
-    let w₂ : List ℕ = c.copy-from-slice-2.new.self in
+    let w₁ : List ℕ = c.copy_from_slice.new.self in
+    let w₂ : List ℕ = c.copy_from_slice-2.new.self in
     let w₃ : List ℕ = c.fill.new.self in
-    let w₄ : List ℕ = c.copy-from-slice-3.new.self in
+    let w₄ : List ℕ = c.copy_from_slice-3.new.self in
     let wrote₁ : w₁ ≡ number / 256 % 256 ∷ (number % 256 ∷ (kind ∷ (0 ∷ (size / 256 % 256 ∷ (size % 256 ∷ []))))) =
-    c.copy-from-slice.ensures.after
-    ∙ ap₂ (λ (xs ys : List ℕ). get_or xs 0 0 ∷ (get_or xs 1 0 ∷ (kind ∷ (0 ∷ (get_or ys 0 0 ∷ (get_or ys 1 0 ∷ [])))))) c.to-be-bytes.ensures c.to-be-bytes-2.ensures in
-    let wrote₂ = c.copy-from-slice-2.ensures.after in
+    c.copy_from_slice.ensures.after
+    ∙ ap₂ (λ (xs ys : List ℕ). get_or xs 0 0 ∷ (get_or xs 1 0 ∷ (kind ∷ (0 ∷ (get_or ys 0 0 ∷ (get_or ys 1 0 ∷ [])))))) c.to_be_bytes.ensures c.to_be_bytes-2.ensures in
+    let wrote₂ = c.copy_from_slice-2.ensures.after in
     let long : 6 + size - 6 ≡ size = omega arith in
     let left : 508 - (6 + size) ≡ 502 - size = omega arith in
     let room = room_left block c.requires.whole number kind bytes c.requires.fits w₁ w₂ wrote₁ wrote₂ (6 + size - 6) long (508 - (6 + size)) left in
     let wrote₃ : w₃ ≡ replicate (508 - (6 + size)) 0 = c.fill.ensures.after (λ y e. e) ∙ ap (λ (j : ℕ). replicate j 0) room in
     block_laid block c.requires.whole number kind bytes c.requires.fits w₁ w₂ wrote₁ wrote₂ (6 + size - 6) long (508 - (6 + size)) left w₃ wrote₃
-    c.block-check.result w₄ c.block-check.ensures (c.copy-from-slice-3.ensures.after ∙ c.to-be-bytes-check.ensures)
+    c.block_check.result w₄ c.block_check.ensures (c.copy_from_slice-3.ensures.after ∙ c.to_be_bytes-check.ensures)

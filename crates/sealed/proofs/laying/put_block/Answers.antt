@@ -8,12 +8,12 @@ returns c =
     let out : List ℕ = c.args.output.now in
     let n : ℕ = c.args.number in
     let k : ℕ = 512 * n + 512 - 512 * n in
-    let block : List ℕ = c.fill-block.new.block in
-    let whole : length block ≡ 512 = ap length c.fill-block.ensures ∙ block_length n c.args.kind c.args.data.now c.requires.fits in
+    let block : List ℕ = c.fill_block.new.block in
+    let whole : length block ≡ 512 = ap length c.fill_block.ensures ∙ block_length n c.args.kind c.args.data.now c.requires.fits in
     let size : length block ≡ k = omega (arith, whole) in
     record {
       front =
           take-put_mid (512 * n) k out block (512 * (n + 1)) (omega (arith, size)) (omega arith)
-          ∙ ap (λ (xs : List ℕ). take (512 * n) out ++ xs) c.fill-block.ensures;
+          ∙ ap (λ (xs : List ℕ). take (512 * n) out ++ xs) c.fill_block.ensures;
       back = drop-put_mid (512 * n) k out block (512 * (n + 1)) (omega arith) (omega arith) size;
     }

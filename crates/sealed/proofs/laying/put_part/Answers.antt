@@ -22,11 +22,11 @@ loop-piece-preserved c =
     let some : 0 < length (piece ++ more) = subst (λ (xs : List ℕ). 0 < length xs) joins went.1.2 in
     let cut : pieces left ≡ piece ∷ pieces more = ap pieces joins ∙ next_piece piece more size some in
     let later : List ℕ = laid (suc n) (map (content kind) (pieces more)) in (
-      ap₂ (λ (xs : List ℕ) (j : ℕ). xs ++ laid j (map (content kind) (pieces more))) c.put-block.ensures.front (add-one n)
+      ap₂ (λ (xs : List ℕ) (j : ℕ). xs ++ laid j (map (content kind) (pieces more))) c.put_block.ensures.front (add-one n)
           ∙ append_assoc (take (512 * n) out) (block_bytes n (content kind piece)) later
           ∙ sym (ap (λ ps. take (512 * n) out ++ laid n (map (content kind) ps)) cut)
           ∙ inv.0,
-      c.put-block.ensures.back ∙ drop_further (512 * n) (512 * (n + 1)) out entry (omega arith) inv.1,
+      c.put_block.ensures.back ∙ drop_further (512 * n) (512 * (n + 1)) out entry (omega arith) inv.1,
       omega (arith, inv.2, ap length joins, count_more piece more size some),
       went.0 ∙ inv.3,
     )

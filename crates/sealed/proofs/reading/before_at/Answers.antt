@@ -12,6 +12,6 @@ returns c =
     let file : List ℕ = c.args.file.now in
     let k : ℕ = c.args.place in
     let size : 512 * k - 512 * (k - 1) ≡ 512 = omega (arith, c.if-place-eq0.false) in
-    ap standing c.read-prefix.ensures.bytes
+    ap standing c.read_prefix.ensures.bytes
     ∙ ap (λ (n : ℕ). previous (take n (drop (512 * (k - 1)) file))) size
     ∙ previous_at_place file k c.if-place-eq0.false

@@ -3,12 +3,12 @@ use Rattle.sealed.specs.declared.prefix.Prefix.{Prefix}
 use Rattle.sealed.proofs.Places.{formed}
 use Rattle.sealed.proofs.scanning.add_block.Goals as goal
 
-pub overflow-add-result : goal.overflow-add-result
-overflow-add-result c =
-    let used = ap (λ (p : Prefix). p.used) c.read-prefix.ensures.bytes in
+pub overflow_add-result : goal.overflow_add-result
+overflow_add-result c =
+    let used = ap (λ (p : Prefix). p.used) c.read_prefix.ensures.bytes in
     omega (arith, used, (formed c.args.block.now c.requires.form).used, c.brings.ensures.within, c.requires.header)
 
-pub overflow-add-result-2 : goal.overflow-add-result-2
-overflow-add-result-2 c =
-    let used = ap (λ (p : Prefix). p.used) c.read-prefix.ensures.bytes in
+pub overflow_add-result-2 : goal.overflow_add-result-2
+overflow_add-result-2 c =
+    let used = ap (λ (p : Prefix). p.used) c.read_prefix.ensures.bytes in
     omega (arith, used, (formed c.args.block.now c.requires.form).used, c.brings-2.ensures.within, c.requires.body)

@@ -14,11 +14,11 @@ returns-in-Some c =
     let k : ℕ = c.loop-k.k in
     let p : Previous = previous_of c.loop-k.scan.last in
     let n : ℕ = length file / 512 in
-    let bad = sym (ap (fault_of k p) (slice_is file k)) ∙ sym c.block-fault.ensures ∙ c.in-Some.is in
+    let bad = sym (ap (fault_of k p) (slice_is file k)) ∙ sym c.block_fault.ensures ∙ c.in-Some.is in
     c.loop-k.invariant.0 ∙ ap (scanned k p) (rows_more n k file c.loop-k-test.true) ∙ scan_stop k p (block_at file k) _ c.in-Some.refusal bad
 
-pub add-block-scan-requires : goal.add-block-scan-requires
-add-block-scan-requires c =
+pub add_block-scan-requires : goal.add_block-scan-requires
+add_block-scan-requires c =
     let file : List ℕ = c.args.file.now in
     let k : ℕ = c.loop-k.k in
     let p : Previous = previous_of c.loop-k.scan.last in
@@ -27,7 +27,7 @@ add-block-scan-requires c =
     let inv = c.loop-k.invariant in
     record {
       whole = ap length (slice_is file k) ∙ block_size file k (omega (arith, less));
-      form = no_fault_form k p (take (512 * k + 512 - 512 * k) (drop (512 * k) file)) (sym c.block-fault.ensures ∙ c.in-default.is);
+      form = no_fault_form k p (take (512 * k + 512 - 512 * k) (drop (512 * k) file)) (sym c.block_fault.ensures ∙ c.in_default.is);
       header = omega (arith, inv.1, data_within 1 k file, less, good.few);
       body = omega (arith, inv.2, data_within 2 k file, less, good.few);
     }
@@ -41,10 +41,10 @@ loop-k-preserved c =
     let b : List ℕ = block_at file k in
     let inv = c.loop-k.invariant in
     let less : k < n = c.loop-k-test.true in
-    let none = sym (ap (fault_of k p) (slice_is file k)) ∙ sym c.block-fault.ensures ∙ c.in-default.is in
+    let none = sym (ap (fault_of k p) (slice_is file k)) ∙ sym c.block_fault.ensures ∙ c.in_default.is in
     let size = block_size file k (omega (arith, less)) in
     let used = (formed b (no_fault_form k p b none)).used in
-    let added = c.add-block-scan.ensures ∙ ap (scan_after c.loop-k.scan) (slice_is file k) in
+    let added = c.add_block-scan.ensures ∙ ap (scan_after c.loop-k.scan) (slice_is file k) in
     let later = rows_of (n - (k + 1)) (drop (512 * (k + 1)) file) in (
       inv.0 ∙ ap (scanned k p) (rows_more n k file less) ∙ scan_on k p b later none
           ∙ ap₂ (λ (j : ℕ) (q : Previous). scanned j q later) (sym (add-one k)) (sym (ap (λ (s : Scan). previous_of s.last) added)),

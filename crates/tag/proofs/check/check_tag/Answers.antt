@@ -8,37 +8,37 @@ use Rattle.tag.proofs.check.check_tag.Goals as goal
 abbrev refused : Refusal → Result (Unit {0}) Refusal
 refused e = Err e
 
-pub returns-in-err-tagged : goal.returns-in-err-tagged
-returns-in-err-tagged g c =
+pub returns-in_err-tagged : goal.returns-in_err-tagged
+returns-in_err-tagged g c =
     let subkey : Block = g.E.Engine.subkey_of c.args.engine.now in
     let header : List ℕ = c.args.header.now in
     let body : List ℕ = c.args.body.now in
     let told = err_from_is_err_and c.from-residual.result c.from-residual.ensures.1 in
-    let said : c.from-residual.result ≡ refused c.in-err-tagged.field-0.0 = told.1 ∙ ap refused told.2 in
-    let long = c.in-err-tagged.ensures.answer in
+    let said : c.from-residual.result ≡ refused c.in_err-tagged.field-0.0 = told.1 ∙ ap refused told.2 in
+    let long = c.in_err-tagged.ensures.answer in
     record {
       answer = said ∙ checked subkey c.args.pad header body c.args.given.now (omega arith) (omega arith) (Err _) _ long refl;
-      engine = not_run g.E.Engine c.args.engine.now c.tag-message.new.engine header body _ _ _ said long c.in-err-tagged.ensures.engine;
+      engine = not_run g.E.Engine c.args.engine.now c.tag_message.new.engine header body _ _ _ said long c.in_err-tagged.ensures.engine;
     }
 
-pub returns-then-not-begins-with : goal.returns-then-not-begins-with
-returns-then-not-begins-with g c =
+pub returns-then-not-begins_with : goal.returns-then-not-begins_with
+returns-then-not-begins_with g c =
     let subkey : Block = g.E.Engine.subkey_of c.args.engine.now in
-    let went = c.in-ok-tagged.ensures in
+    let went = c.in_ok-tagged.ensures in
     record {
       answer =
           compared_with subkey c.args.pad c.args.header.now c.args.body.now c.args.given.now (omega arith) (omega arith)
-          c.in-ok-tagged.tagged c.to-bytes.result false went.answer c.to-bytes.ensures.value c.if-not-begins-with.ensures;
+          c.in_ok-tagged.tagged c.to_bytes.result false went.answer c.to_bytes.ensures.value c.if-not-begins_with.ensures;
       engine = went.engine;
     }
 
 pub returns : goal.returns
 returns g c =
     let subkey : Block = g.E.Engine.subkey_of c.args.engine.now in
-    let went = c.in-ok-tagged.ensures in
+    let went = c.in_ok-tagged.ensures in
     record {
       answer =
           compared_with subkey c.args.pad c.args.header.now c.args.body.now c.args.given.now (omega arith) (omega arith)
-          c.in-ok-tagged.tagged c.to-bytes.result true went.answer c.to-bytes.ensures.value c.if-not-begins-with.ensures;
+          c.in_ok-tagged.tagged c.to_bytes.result true went.answer c.to_bytes.ensures.value c.if-not-begins_with.ensures;
       engine = went.engine;
     }

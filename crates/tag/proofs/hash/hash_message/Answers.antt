@@ -15,15 +15,15 @@ returns g c =
     let lengths : Block = block_of_lengths (length header) (length body) in
     let start = c.args.engine.now in
     let zeroed = c.resume.new.self in
-    let second = c.absorb-part.new.engine in
-    let third = c.absorb-part-2.new.engine in
+    let second = c.absorb_part.new.engine in
+    let third = c.absorb_part-2.new.engine in
     let end = c.absorb.new.self in
     let from = c.resume.ensures in
     let said = c.absorb.ensures in
-    let last = hashed_one m third end _ lengths said.value said.subkey said.ready said.whole c.length-block.ensures in
+    let last = hashed_one m third end _ lengths said.value said.subkey said.ready said.whole c.length_block.ensures in
     let all =
-    hashed_append m zeroed second end (blocks header) (blocks body ++ (lengths ∷ [])) c.absorb-part.ensures
-    (hashed_append m second third end (blocks body) (lengths ∷ []) c.absorb-part-2.ensures last) in
+    hashed_append m zeroed second end (blocks header) (blocks body ++ (lengths ∷ [])) c.absorb_part.ensures
+    (hashed_append m second third end (blocks body) (lengths ∷ []) c.absorb_part-2.ensures last) in
     let value = hashed_eval m (m.subkey_of start) zeroed end [] (block_list header body) all from.subkey (from.value ∙ c.zero.ensures) in
     record {
       answer = c.value.ensures.answer ∙ value;

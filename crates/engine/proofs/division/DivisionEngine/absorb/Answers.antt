@@ -24,12 +24,12 @@ stepped a w e p divided =
 pub returns : goal.returns
 returns c =
     let a : Accepted = c.args.self.now.polynomial in
-    let divided : Divided block_ring (times_t block_ring (sum_of block_ring c.args.self.now.state (c.args.block ∷ []))) (divisor_of a) c.absorb-into.new.state 128 =
+    let divided : Divided block_ring (times_t block_ring (sum_of block_ring c.args.self.now.state (c.args.block ∷ []))) (divisor_of a) c.absorb_into.new.state 128 =
     subst (λ (k : Block). Divided block_ring (times_t block_ring (sum_of block_ring c.args.self.now.state (c.args.block ∷ [])))
-    (stored block_ring 128 (coefficients_of k) ++ (block_ring.one ∷ [])) c.absorb-into.new.state 128)
-    c.coefficients.ensures c.absorb-into.ensures in
+    (stored block_ring 128 (coefficients_of k) ++ (block_ring.one ∷ [])) c.absorb_into.new.state 128)
+    c.coefficients.ensures c.absorb_into.ensures in
     record {
-      value = stepped a c.args.self.now.state c.absorb-into.new.state c.args.block divided;
+      value = stepped a c.args.self.now.state c.absorb_into.new.state c.args.block divided;
       subkey = refl;
       ready = refl;
       whole = record { kept = refl; divided = divided };

@@ -1,4 +1,4 @@
-use Rattle.std.proofs.Common.{◌≡◌, ℕ, ◌<◌, length, get_or, sym, ap, ◌∙◌, subst, arith, lit<, rules}
+use Rattle.std.proofs.Common.{◌≡◌, ℕ, length, get_or, sym, ap, ◌∙◌, arith, lit<, rules}
 use Rattle.field.specs.Digits.{numeral, digits}
 use Rattle.field.proofs.Digits.{AreDigits, spelled, spells, digits_numeral}
 use Rattle.field.specs.Held.{entered}

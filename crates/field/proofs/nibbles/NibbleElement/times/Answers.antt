@@ -5,12 +5,12 @@ use Rattle.field.specs.Instances.{nibble_held, nibble_lawful}
 use Rattle.field.specs.Products.{multiplied_fits}
 use Rattle.field.proofs.nibbles.NibbleElement.times.Goals as goal
 
-pub invariant-of-result : goal.invariant-of-result
-invariant-of-result c = (
-  subst (λ (n : ℕ). n < 2 ^ 4) (sym c.low-product.ensures)
-      (multiplied_fits nibble_kind nibble_lawful 4 c.args.self.bits c.args.other.bits c.args.other.fits),
-  tt,
-)
+pub invariant_of-result : goal.invariant_of-result
+invariant_of-result c = record {
+  fits =
+      subst (λ (n : ℕ). n < 2 ^ 4) (sym c.low_product.ensures)
+      (multiplied_fits nibble_kind nibble_lawful 4 c.args.self.bits c.args.other.bits c.args.other.fits);
+}
 
 pub returns : goal.returns
 returns c = entered nibble_held _ _ c.low_product.ensures

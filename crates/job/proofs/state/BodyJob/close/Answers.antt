@@ -20,9 +20,9 @@ returns g c =
     let pad = c.args.pad in
     let flushed = c.flush.ensures in
     let said = c.absorb.ensures in
-    let counted : c.length-block.result ≡ block_of_lengths j.header f.count =
-    c.length-block.ensures ∙ ap (block_of_lengths j.header) flushed.count in
-    let last = hashed_one m t.engine e c.length-block.result (block_of_lengths j.header f.count) said.value said.subkey said.ready said.whole counted in
+    let counted : c.length_block.result ≡ block_of_lengths j.header f.count =
+    c.length_block.ensures ∙ ap (block_of_lengths j.header) flushed.count in
+    let last = hashed_one m t.engine e c.length_block.result (block_of_lengths j.header f.count) said.value said.subkey said.ready said.whole counted in
     let answer = c.value-hash.ensures.answer in
     record {
       closes = λ h switches header body held.

@@ -26,7 +26,7 @@ loop-i-preserved g c =
     let calls : List Call = c.args.calls.now in
     let inv = c.loop-i.invariant in
     let said = c.answer.ensures in
-    let pushed = c.push-reserved.ensures in (
+    let pushed = c.push_reserved.ensures in (
       said.count,
       omega (arith, pushed.capacity, inv.1),
       omega (arith, pushed.len, inv.2),

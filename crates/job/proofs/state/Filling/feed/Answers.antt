@@ -4,8 +4,8 @@ use Rattle.job.specs.Jobs.{Fed}
 use Rattle.job.proofs.Feeding.{fed_append, fed_fill}
 use Rattle.job.proofs.state.Filling.feed.Goals as goal
 
-pub take-all-requires : goal.take-all-requires
-take-all-requires g c =
+pub take_all-requires : goal.take_all-requires
+take_all-requires g c =
     let m = g.E.Engine in
     let f = c.args.self.now in
     let piece : List ℕ = c.args.piece.now in
@@ -25,9 +25,9 @@ pub returns : goal.returns
 returns g c =
     let m = g.E.Engine in
     let f = c.args.self.now in
-    let t = c.take-all.new.self in
+    let t = c.take_all.new.self in
     let piece : List ℕ = c.args.piece.now in
     let n : ℕ = c.min-first.result in
     let rest : List ℕ = take (length piece - n) (drop n piece) in
     subst (λ (xs : List ℕ). Fed m f xs t) (ap (λ xs. take n piece ++ xs) (take_rest piece n) ∙ take-append-drop n piece)
-    (fed_append m f c.hold.new.self t (take n piece) rest c.hold.ensures c.take-all.ensures)
+    (fed_append m f c.hold.new.self t (take n piece) rest c.hold.ensures c.take_all.ensures)

@@ -14,7 +14,7 @@ returns-then-self-gt0 g c =
     record {
       hashed =
           subst (λ (ps : List Block). Hashed m f.engine ps e) (sym (last_block f.held f.fill f.room f.blank (omega arith)))
-          (hashed_one m f.engine e _ _ said.value said.subkey said.ready said.whole c.from-bytes.ensures.value);
+          (hashed_one m f.engine e _ _ said.value said.subkey said.ready said.whole c.from_bytes.ensures.value);
       left = refl;
       count = refl;
     }

@@ -19,5 +19,5 @@ returns g c =
       holds = λ h switches before taken held.
           let within : length taken + length piece ≤ limit_of c.args.part = omega (arith, held.count, limit, below, c.requires) in
           let within-limit : fits c.args.part taken piece ≡ true = le-leb (length taken + length piece) (limit_of c.args.part) within in
-          (rw within-limit refl, rw within-limit (holds_append m h switches before f t taken held piece (λ k. (c.type-inv.piece k).fits) fed));
+          (rw within-limit refl, rw within-limit (holds_append m h switches before f t taken held piece (λ k. (c.type_inv.piece k).fits) fed));
     }

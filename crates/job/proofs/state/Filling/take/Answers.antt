@@ -17,7 +17,7 @@ returns-then-piece-eq16 g c =
     let sixteen : length piece ≡ 16 = omega arith in
     let none : take f.fill f.held ≡ [] = ap (λ n. take n f.held) c.requires.edge in
     let alone : take f.fill f.held ++ piece ≡ piece = ap (λ xs. xs ++ piece) none in
-    let read : c.from-bytes.result ≡ block_of piece = c.from-bytes.ensures.value ∙ ap block_of c.copy-from-slice.ensures.after in
+    let read : c.from_bytes.result ≡ block_of piece = c.from_bytes.ensures.value ∙ ap block_of c.copy_from_slice.ensures.after in
     record {
       hashed =
           subst (λ (ps : List Block). Hashed m f.engine ps e) (sym (ap full_blocks alone ∙ full_one piece sixteen))

@@ -5,8 +5,8 @@ use Rattle.field.specs.Instances.{block_held}
 use Rattle.polynomial.specs.Coefficients.{ones_parts, weighed, block_placed}
 use Rattle.polynomial.proofs.blocks.BlockBinary.weight.Goals as goal
 
-pub overflow-add-result : goal.overflow-add-result
-overflow-add-result c =
+pub overflow_add-result : goal.overflow_add-result
+overflow_add-result c =
     let high = ones-le 64 (c.bits.result / 2 ^ 64) (omega arith) in
     let low = ones-le 64 (bit_and c.bits-2.result (2 ^ 64 - 1)) (mask_lt c.bits-2.result 64) in
     record { fits = omega arith }
