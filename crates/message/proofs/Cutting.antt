@@ -1,9 +1,8 @@
 -- The blocks of a part, piece by piece.
-use Rattle.std.proofs.Common.{◌≡◌, ℕ, zero, suc, ◌+◌, ◌-◌, ◌*◌, ◌/◌, ◌<◌, ◌≤◌, min, ◌⊎◌, List, [], ◌∷◌, ◌++◌, length, take, drop, sym, refl, ap, ◌∙◌, ap₂, inl, inr, append-nil, arith, length-append}
+use Rattle.std.proofs.Common.{◌≡◌, ℕ, zero, suc, ◌+◌, ◌<◌, ◌≤◌, min, ◌⊎◌, List, [], ◌∷◌, ◌++◌, length, take, drop, sym, refl, ap, ◌∙◌, ap₂, inl, inr, append-nil, arith, length-append}
 use native.Mathlib.Decide.{dec_le}
 use Rattle.std.proofs.lemmas.List.{take_at, drop_at, take_all, drop_all, nil_from_length}
 use Rattle.field.specs.Bytes.{block_of}
-use Rattle.field.specs.declared.kinds.Block.{Block}
 use Rattle.message.specs.Blocks.{blocks_taken, filled, cut, blocks}
 
 pub length_cut : (n : ℕ) (bytes : List ℕ) → length (cut n bytes) ≡ n

@@ -1,14 +1,13 @@
 -- The standard's hash and tag are ours.
-use Rattle.std.proofs.Common.{◌≡◌, ℕ, zero, suc, ◌+◌, ◌-◌, ◌*◌, ◌/◌, ◌%◌, ◌^◌, ◌<◌, ◌≤◌, List, [], ◌∷◌, ◌++◌, length, get_or, take, drop, replicate, sym, refl, ap, ◌∙◌, subst, ap₂, append_assoc, append-nil, mul-div_cancel, arith, lit<, length-append, length-drop, take-append-drop, get_or-drop, get_or-take}
+use Rattle.std.proofs.Common.{◌≡◌, ℕ, zero, suc, ◌+◌, ◌-◌, ◌*◌, ◌/◌, ◌<◌, ◌≤◌, List, [], ◌∷◌, ◌++◌, length, take, drop, replicate, sym, refl, ap, ◌∙◌, subst, ap₂, append_assoc, append-nil, mul-div_cancel, arith, lit<, length-append, length-drop, take-append-drop, get_or-drop}
 use native.Mathlib.Decide.{dec_le}
 use native.Mathlib.Nat.{div-div-eq-div-mul}
-use lib.Bits.{bit_xor}
 use lib.ListN.{length-replicate}
-use Rattle.std.proofs.lemmas.List.{take_at, drop_at, take_all, nil_from_length, length-take-le}
+use Rattle.std.proofs.lemmas.List.{take_at, drop_at, take_all, length-take-le}
 use Rattle.field.specs.Bytes.{block_of}
 use Rattle.field.specs.Digits.{numeral, digits}
 use Rattle.field.specs.Evaluation.{eval, absorbed}
-use Rattle.field.specs.Kinds.{block, block_ring}
+use Rattle.field.specs.Kinds.{block_ring}
 use Rattle.field.specs.declared.kinds.Block.{Block}
 use Rattle.field.proofs.Digits.{length_digits, digits_mod}
 use Rattle.field.proofs.Horner.{absorbed_eval}

@@ -6,8 +6,8 @@ use Rattle.field.specs.Digits.{digits}
 use Rattle.field.specs.Kinds.{block_kind}
 use Rattle.field.specs.Instances.{block_lawful}
 use Rattle.field.specs.Products.{shifted_fits}
-use Rattle.message.specs.Standard.{bits, xor, select, shift_right, last_bit, R, next_v, product_from, product, zeros}
-use Rattle.message.proofs.Strings.{xor_bits, select_bits, last_bit_bits, shift_right_bits}
+use Rattle.message.specs.Standard.{bits, xor, select, shift_right, R, next_v, product_from, product, zeros}
+use Rattle.message.proofs.Strings.{select_bits, last_bit_bits, shift_right_bits}
 
 R_bits : R ≡ bits 128 (0xE1 * 2 ^ 120)
 unfolding R digits

@@ -1,8 +1,7 @@
 -- Strings of bits: their sums, shifts and joins, as numbers.
-use Rattle.std.proofs.Common.{◌≡◌, ℕ, zero, suc, ◌+◌, ◌-◌, ◌*◌, ◌/◌, ◌%◌, ◌^◌, ◌<◌, ◌≤◌, List, [], ◌∷◌, ◌++◌, length, get_or, take, replicate, sym, refl, ap, ◌∙◌, subst, ap₂, append_assoc, append-nil, mul_assoc, suc-mul, mul_comm, pow-suc, zero-mul, div-one, add-one, arith, lit<, length-append, pow-add, shr_lt}
-use native.Mathlib.Nat.{pow-zero, div-eq_of_lt}
+use Rattle.std.proofs.Common.{◌≡◌, ℕ, zero, suc, ◌+◌, ◌-◌, ◌*◌, ◌/◌, ◌%◌, ◌^◌, ◌<◌, List, [], ◌∷◌, ◌++◌, length, get_or, take, replicate, sym, refl, ap, ◌∙◌, subst, ap₂, append_assoc, pow-suc, div-one, add-one, arith, lit<, length-append, pow-add, shr_lt}
+use native.Mathlib.Nat.{div-eq_of_lt}
 use lib.Bits.{bit_xor, xor_zero_r}
-use lib.ListN.{length-replicate}
 use Rattle.std.proofs.lemmas.List.{take_at, replicate-append-replicate}
 use Rattle.field.specs.Binary.{part}
 use Rattle.field.specs.Digits.{numeral, digits}

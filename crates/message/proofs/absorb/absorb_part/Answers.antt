@@ -1,5 +1,5 @@
 use Rattle.std.proofs.Common.{◌≡◌, ℕ, ◌<◌, min, List, ◌++◌, length, sym, ap, ◌∙◌, subst, ap₂}
-use Rattle.std.specs.Slice.Iter.{chunks_rest, chunks_size}
+use Rattle.std.specs.Slice.Iter.{chunks_rest}
 use Rattle.field.specs.Bytes.{block_of}
 use Rattle.field.specs.Evaluation.{absorbed}
 use Rattle.field.specs.Kinds.{block_ring}

@@ -1,4 +1,4 @@
-use Rattle.std.proofs.Common.{◌≡◌, ℕ, ◌+◌, List, [], ◌∷◌, ◌++◌, length, Ok, Result, sym, ap, ◌∙◌, subst, ap₂, append_assoc, arith, length-append}
+use Rattle.std.proofs.Common.{◌≡◌, ℕ, ◌+◌, List, [], ◌∷◌, ◌++◌, length, Ok, Result, sym, ap, ◌∙◌, subst, ap₂, arith, length-append}
 use Rattle.std.proofs.lemmas.Bool.{cond-false, le-ltb}
 use Rattle.field.specs.Evaluation.{eval, absorbed}
 use Rattle.field.specs.Kinds.{block_ring}
@@ -39,10 +39,10 @@ returns c =
     let pad : Block = c.args.pad in
     let header : List ℕ = c.args.header.now in
     let body : List ℕ = c.args.body.now in
-    let first : c.absorb_part-after-header.result ≡ absorbed block_ring subkey block_ring.zero (blocks header) =
-    c.absorb_part-after-header.ensures ∙ ap (λ (v : Block). absorbed block_ring subkey v (blocks header)) c.zero.ensures in
-    let second : c.absorb_part-after-body.result ≡ absorbed block_ring subkey (absorbed block_ring subkey block_ring.zero (blocks header)) (blocks body) =
-    c.absorb_part-after-body.ensures ∙ ap (λ (v : Block). absorbed block_ring subkey v (blocks body)) first in
+    let first : c.absorb_part-after_header.result ≡ absorbed block_ring subkey block_ring.zero (blocks header) =
+    c.absorb_part-after_header.ensures ∙ ap (λ (v : Block). absorbed block_ring subkey v (blocks header)) c.zero.ensures in
+    let second : c.absorb_part-after_body.result ≡ absorbed block_ring subkey (absorbed block_ring subkey block_ring.zero (blocks header)) (blocks body) =
+    c.absorb_part-after_body.ensures ∙ ap (λ (v : Block). absorbed block_ring subkey v (blocks body)) first in
     let hashed : c.times-hash.result ≡ hash_of subkey header body =
     c.times-hash.ensures
     ∙ ap (λ (v : Block). block_ring.product v subkey) (c.plus.ensures ∙ ap₂ block_ring.sum second c.length_block.ensures)
@@ -58,8 +58,8 @@ returns c =
     record {
       value =
           ap taken made
-          ∙ sym (cond-false _ _ _ (le-ltb 65535 (length header) c.if-header-gt-HEADER-LIMIT.false)
-          ∙ cond-false _ _ _ (le-ltb 68719476704 (length body) c.if-body-gt-BODY-LIMIT.false));
+          ∙ sym (cond-false _ _ _ (le-ltb 65535 (length header) c.if-header-gt-HEADER_LIMIT.false)
+          ∙ cond-false _ _ _ (le-ltb 68719476704 (length body) c.if-body-gt-BODY_LIMIT.false));
       standard =
           subst (λ (t : Block). MeetsStandard subkey pad header body c.times-hash.result t) (sym tagged)
           (subst (λ (h : Block). MeetsStandard subkey pad header body h (tag_of subkey pad header body)) (sym hashed)
