@@ -8,6 +8,7 @@ mod words;
 
 use polynomials::{print_maker, print_trial};
 use std::env;
+use std::process::ExitCode;
 use stop::Stop;
 use tag::tag_files;
 
@@ -36,12 +37,12 @@ fn start(rt: &HostRuntime) -> Result<(), Stop> {
     run(rt, words.as_slice())
 }
 
-fn main(rt: HostRuntime) -> Result<(), Stop> {
+fn main(rt: HostRuntime) -> ExitCode {
     match start(&rt) {
-        Ok(()) => Ok(()),
+        Ok(()) => ExitCode::SUCCESS,
         Err(stop) => {
-            stop.tell(&rt)?;
-            Err(stop)
+            let _ = stop.tell(&rt);
+            ExitCode::FAILURE
         }
     }
 }
