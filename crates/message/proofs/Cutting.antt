@@ -17,30 +17,36 @@ pub blocks_none : (bytes : List ℕ) → length bytes ≡ 0 → blocks bytes ≡
 unfolding blocks
 blocks_none bytes empty = let e : blocks_taken (length bytes) ≡ 0 = omega arith in ap (λ (n : ℕ). cut n bytes) e
 
+-- a piece of some width, shorter only where nothing follows
+abbrev pub Next : ℕ → List ℕ → List ℕ → Type 0
+Next width piece more = (length piece ≡ width) ⊎ ((length piece ≤ width) × (length more ≡ 0))
+
+-- cutting at the width gives the piece and what follows
+module _ (width : ℕ) (piece more : List ℕ) (next : Next width piece more) where
+  pub take_next : take width (piece ++ more) ≡ piece
+  take_next =
+      elim next [
+        | inl full ↦ take_at piece more width full
+        | inr short ↦ ap (λ (ys : List ℕ). take width (piece ++ ys)) (nil_from_length more short.1) ∙ ap (take width) (append-nil piece) ∙ take_all width piece short.0
+      ]
+
+  pub drop_next : drop width (piece ++ more) ≡ more
+  drop_next =
+      elim next [
+        | inl full ↦ drop_at piece more width full
+        | inr short ↦
+            let none : more ≡ [] = nil_from_length more short.1 in
+            ap (λ (ys : List ℕ). drop width (piece ++ ys)) none ∙ ap (drop width) (append-nil piece) ∙ drop_all width piece short.0 ∙ sym none
+      ]
+
 -- the next piece is a block, and the blocks of what follows come after it
 module _ (piece more : List ℕ) (size : length piece ≡ min 16 (length (piece ++ more))) (some : 0 < length (piece ++ more)) where
-  apart : (length piece ≡ 16) ⊎ ((length piece ≤ 16) × (length more ≡ 0))
-  apart =
+  next : Next 16 piece more
+  next =
       let whole = length-append piece more in
       elim (dec_le 16 (length piece + length more)) [
         | yes h ↦ inl (omega arith)
         | no h ↦ inr (omega arith, omega arith)
-      ]
-
-  first : take 16 (piece ++ more) ≡ piece
-  first =
-      elim apart [
-        | inl full ↦ take_at piece more 16 full
-        | inr short ↦ ap (λ (ys : List ℕ). take 16 (piece ++ ys)) (nil_from_length more short.1) ∙ ap (take 16) (append-nil piece) ∙ take_all 16 piece short.0
-      ]
-
-  second : drop 16 (piece ++ more) ≡ more
-  second =
-      elim apart [
-        | inl full ↦ drop_at piece more 16 full
-        | inr short ↦
-            let none : more ≡ [] = nil_from_length more short.1 in
-            ap (λ (ys : List ℕ). drop 16 (piece ++ ys)) none ∙ ap (drop 16) (append-nil piece) ∙ drop_all 16 piece short.0 ∙ sym none
       ]
 
   pub blocks_more : blocks (piece ++ more) ≡ block_of (filled piece) ∷ blocks more
@@ -48,6 +54,6 @@ module _ (piece more : List ℕ) (size : length piece ≡ min 16 (length (piece 
   blocks_more =
       let whole = length-append piece more in
       let count : blocks_taken (length (piece ++ more)) ≡ suc (blocks_taken (length more)) =
-      elim apart [ inl full ↦ omega arith | inr short ↦ omega arith ] in
+      elim next [ inl full ↦ omega arith | inr short ↦ omega arith ] in
       ap (λ (n : ℕ). cut n (piece ++ more)) count
-      ∙ ap₂ (λ (p ys : List ℕ). block_of (filled p) ∷ cut (blocks_taken (length more)) ys) first second
+      ∙ ap₂ (λ (p ys : List ℕ). block_of (filled p) ∷ cut (blocks_taken (length more)) ys) (take_next 16 piece more next) (drop_next 16 piece more next)

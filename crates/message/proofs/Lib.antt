@@ -1,4 +1,6 @@
+pub mod Within
 pub mod Cutting
+pub mod Finding
 pub mod Strings
 pub mod StandardProduct
 pub mod StandardHash

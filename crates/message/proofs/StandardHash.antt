@@ -12,10 +12,10 @@ use Rattle.field.specs.declared.kinds.Block.{Block}
 use Rattle.field.proofs.Digits.{length_digits, digits_mod}
 use Rattle.field.proofs.Horner.{absorbed_eval}
 use Rattle.field.specs.Instances.{block_ring_laws, block_sum_bits, block_product_bits}
-use Rattle.message.specs.Blocks.{blocks_taken, filled, cut, blocks, block_of_lengths, block_list}
+use Rattle.message.specs.Blocks.{AreBytes, blocks_taken, filled, cut, blocks, block_of_lengths, block_of_counts, block_list}
 use Rattle.message.specs.Hash.{hash_of, tag_of}
 use Rattle.message.specs.Standard.{bits, string, zeros, xor, product, ghash_from, ghash, padded, message, block_string, MeetsStandard}
-use Rattle.message.proofs.Strings.{AreBytes, xor_bits, string_append, length_string, string_zeros, string_digits, string_number}
+use Rattle.message.proofs.Strings.{xor_bits, string_append, length_string, string_zeros, string_digits, string_number}
 use Rattle.message.proofs.StandardProduct.{product_bits, zeros_bits}
 
 -- blocks one after the other, as a string
@@ -68,7 +68,7 @@ block_string_same xs small sixteen =
     ∙ ap (λ (n : ℕ). bits (n * 8) (numeral 256 xs)) (sym sixteen)
     ∙ sym (string_number xs small)
 
-small_append : (xs ys : List ℕ) → AreBytes xs → AreBytes ys → AreBytes (xs ++ ys)
+pub small_append : (xs ys : List ℕ) → AreBytes xs → AreBytes ys → AreBytes (xs ++ ys)
 small_append [] ys a b k = b k
 small_append (x ∷ xs) ys a b zero = a zero
 small_append (x ∷ xs) ys a b (suc k) = small_append xs ys (λ i. a (suc i)) b k
@@ -78,13 +78,13 @@ small_zeros zero k = omega arith
 small_zeros (suc n) zero = omega arith
 small_zeros (suc n) (suc k) = small_zeros n k
 
-small_take : (n : ℕ) (xs : List ℕ) → AreBytes xs → AreBytes (take n xs)
+pub small_take : (n : ℕ) (xs : List ℕ) → AreBytes xs → AreBytes (take n xs)
 small_take zero xs a k = omega arith
 small_take (suc n) [] a k = omega arith
 small_take (suc n) (x ∷ xs) a zero = a zero
 small_take (suc n) (x ∷ xs) a (suc k) = small_take n xs (λ i. a (suc i)) k
 
-small_drop : (n : ℕ) (xs : List ℕ) → AreBytes xs → AreBytes (drop n xs)
+pub small_drop : (n : ℕ) (xs : List ℕ) → AreBytes xs → AreBytes (drop n xs)
 small_drop n xs a k = subst (λ (d : ℕ). d < 256) (sym (get_or-drop n xs k 0)) (a (n + k))
 
 small_digits : (n v : ℕ) → AreBytes (digits 256 n v)
@@ -141,6 +141,11 @@ part_string xs small =
     let fill : 8 * (16 * blocks_taken n - n) ≡ 128 * ((length (string xs) + 127) / 128) - length (string xs) =
     sym (ap (λ (k : ℕ). 128 * ((k + 127) / 128) - k) (length_string xs) ∙ ap (λ (q : ℕ). 128 * q - 8 * n) count ∙ omega arith) in
     cut_string (blocks_taken (length xs)) xs small (omega arith) (omega arith) ∙ ap (λ (k : ℕ). string xs ++ zeros k) fill
+
+-- the block of two parts' lengths is that of the two counts
+pub lengths_counts : (header body : List ℕ) → block_of_lengths header body ≡ block_of_counts (length header) (length body)
+unfolding block_of_lengths block_of_counts
+lengths_counts header body = refl
 
 lengths_string : (header body : List ℕ) → block_string (block_of_lengths header body) ≡ bits 64 (length (string header)) ++ bits 64 (length (string body))
 unfolding block_of_lengths

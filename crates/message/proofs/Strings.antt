@@ -1,5 +1,5 @@
 -- Strings of bits: their sums, shifts and joins, as numbers.
-use Rattle.std.proofs.Common.{◌≡◌, ℕ, zero, suc, ◌+◌, ◌-◌, ◌*◌, ◌/◌, ◌%◌, ◌^◌, ◌<◌, List, [], ◌∷◌, ◌++◌, length, get_or, take, replicate, sym, refl, ap, ◌∙◌, subst, ap₂, append_assoc, pow-suc, div-one, add-one, arith, lit<, length-append, pow-add, shr_lt}
+use Rattle.std.proofs.Common.{◌≡◌, ℕ, zero, suc, ◌+◌, ◌-◌, ◌*◌, ◌/◌, ◌%◌, ◌^◌, ◌<◌, List, [], ◌∷◌, ◌++◌, length, take, replicate, sym, refl, ap, ◌∙◌, subst, ap₂, append_assoc, pow-suc, div-one, add-one, arith, lit<, length-append, pow-add, shr_lt}
 use native.Mathlib.Nat.{div-eq_of_lt}
 use lib.Bits.{bit_xor, xor_zero_r}
 use Rattle.std.proofs.lemmas.List.{take_at, replicate-append-replicate}
@@ -7,10 +7,8 @@ use Rattle.field.specs.Binary.{part}
 use Rattle.field.specs.Digits.{numeral, digits}
 use Rattle.field.proofs.Digits.{length_digits, digits_append, digits_mod, digits_numeral}
 use Rattle.field.specs.Orders.{bit_additive}
+use Rattle.message.specs.Blocks.{AreBytes}
 use Rattle.message.specs.Standard.{bits, string, zeros, xor, select, last_bit, shift_right}
-
-abbrev pub AreBytes : List ℕ → Type 0
-AreBytes xs = (k : ℕ) → get_or xs k 0 < 256
 
 -- ---- sums and shifts
 

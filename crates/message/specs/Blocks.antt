@@ -1,8 +1,12 @@
 -- A header and a body as a list of blocks.
-use Rattle.std.specs.Prelude.{ℕ, zero, suc, ◌+◌, ◌-◌, ◌*◌, ◌/◌, List, [], ◌∷◌, ◌++◌, length, take, drop, replicate}
+use Rattle.std.specs.Prelude.{ℕ, zero, suc, ◌+◌, ◌-◌, ◌*◌, ◌/◌, ◌<◌, List, [], ◌∷◌, ◌++◌, length, take, drop, replicate, slice_index}
 use Rattle.field.specs.Bytes.{block_of}
 use Rattle.field.specs.Digits.{digits}
 use Rattle.field.specs.declared.kinds.Block.{Block}
+
+-- numbers below 256
+abbrev pub AreBytes : List ℕ → Type 0
+AreBytes xs = (k : ℕ) → slice_index xs k < 256
 
 -- how many blocks of 16 bytes n bytes take, the last of which may be short
 abbrev pub blocks_taken : ℕ → ℕ
@@ -24,6 +28,10 @@ blocks bytes = cut (blocks_taken (length bytes)) bytes
 -- the lengths of both parts in bits, eight bytes each
 unfoldable pub block_of_lengths : List ℕ → List ℕ → Block
 block_of_lengths header body = block_of (digits 256 8 (8 * length header) ++ digits 256 8 (8 * length body))
+
+-- the lengths of both parts, handed in bytes and written in bits, eight bytes each
+unfoldable pub block_of_counts : ℕ → ℕ → Block
+block_of_counts header body = block_of (digits 256 8 (8 * header) ++ digits 256 8 (8 * body))
 
 abbrev pub block_list : List ℕ → List ℕ → List Block
 block_list header body = blocks header ++ (blocks body ++ (block_of_lengths header body ∷ []))

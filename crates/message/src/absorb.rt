@@ -1,9 +1,9 @@
 // Blocks that are made from bytes and taken into a hash.
-ghost use Rattle.std.specs.Prelude.{◌≡◌, ◌*◌, ◌≤◌, length};
+ghost use Rattle.std.specs.Prelude.{◌≡◌, ◌*◌, ◌≤◌, length, take};
 ghost use Rattle.field.specs.Bytes.{block_of};
 ghost use Rattle.field.specs.Evaluation.{absorbed};
 ghost use Rattle.field.specs.Kinds.{block_ring};
-ghost use Rattle.message.specs.Blocks.{filled, blocks, block_of_lengths};
+ghost use Rattle.message.specs.Blocks.{filled, blocks, block_of_lengths, block_of_counts};
 
 use field::{Block, Element};
 
@@ -14,6 +14,18 @@ fn padded(piece: &[u8]) -> Block
 {
     let mut bytes = [0u8; 16];
     bytes[0..piece.len()].copy_from_slice(piece);
+    Block::from_bytes(bytes)
+}
+
+// The block of the first 16 bytes; a shorter piece is filled with zeros.
+pub fn block_of(piece: &[u8]) -> Block
+    ensures { result ≡ block_of (filled (take 16 piece.now)) }
+{
+    if piece.len() < 16 {
+        return padded(piece);
+    }
+    let mut bytes: [u8; 16] = [0; 16];
+    bytes.copy_from_slice(&piece[..16]);
     Block::from_bytes(bytes)
 }
 
@@ -35,4 +47,11 @@ pub(crate) fn length_block(header: &[u8], body: &[u8]) -> Block
     ensures { result ≡ block_of_lengths header.now body.now }
 {
     Block::new(((header.len() as u128 * 8) << 64) | (body.len() as u128 * 8))
+}
+
+// Both lengths, handed in bytes, in bits, the header's in the higher half.
+pub fn block_of_byte_counts(header: u64, body: u64) -> Block
+    ensures { result ≡ block_of_counts header body }
+{
+    Block::from_halves(header.wrapping_mul(8), body.wrapping_mul(8))
 }
