@@ -7,7 +7,7 @@ use refusal::Refusal;
 use std::alloc::{AllocError, Global};
 use std::io;
 
-#[derive(Drop)]
+#[derive(Debug, Drop)]
 pub(crate) enum Fault {
     WrongCount,
     BadHex(HexFault),
