@@ -1,5 +1,5 @@
 -- Chains joined end to end.
-use Rattle.std.proofs.Common.{◌≡◌, List, [], ◌∷◌, ◌++◌, subst}
+use Rattle.std.proofs.Common.{List, [], ◌∷◌, ◌++◌, subst}
 use Rattle.engine.specs.Chain.{Operation, Chain}
 use Rattle.engine.specs.declared.engine.Engine.{Ghosts}
 

@@ -1,5 +1,5 @@
 -- The division engine: a polynomial in t over blocks, kept below the degree of the accepted polynomial.
-use Rattle.std.specs.Prelude.{◌≡◌, Bool, false, List, [], ◌∷◌, ◌++◌, replicate}
+use Rattle.std.specs.Prelude.{◌≡◌, List, [], ◌∷◌, ◌++◌, replicate}
 use Rattle.field.specs.Kinds.{block_ring}
 use Rattle.field.specs.declared.kinds.Block.{Block}
 use Rattle.polynomial.specs.Blocks.{coefficients_of}

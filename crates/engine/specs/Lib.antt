@@ -4,3 +4,4 @@ pub mod Pairs
 pub mod Remainders
 pub mod Reduction
 pub mod Divisions
+pub mod Rows

@@ -1,5 +1,5 @@
 -- Polynomials in t over a ring, added, multiplied and divided, as lists of coefficients, that of t^0 first.
-use Rattle.std.specs.Prelude.{◌≡◌, ℕ, ◌<◌, List, [], ◌∷◌, ◌++◌, map, length}
+use Rattle.std.specs.Prelude.{◌≡◌, ℕ, List, [], ◌∷◌, map, length}
 use Rattle.field.specs.declared.element.Element.{Ghosts}
 
 module _ {K : Type 0} (m : Ghosts K) where

@@ -1,5 +1,5 @@
 -- The product of the factors, coefficient by coefficient below its highest, which is one.
-use Rattle.std.proofs.Common.{◌≡◌, ℕ, zero, suc, ◌+◌, ◌*◌, ◌^◌, List, [], ◌∷◌, ◌++◌, length, sym, refl, ap, ◌∙◌, ap₂, pow-suc, arith}
+use Rattle.std.proofs.Common.{◌≡◌, ℕ, zero, suc, ◌+◌, ◌^◌, List, [], ◌∷◌, ◌++◌, length, sym, refl, ap, ◌∙◌, pow-suc, arith}
 use Rattle.field.specs.Ring.{CommutativeRing}
 use Rattle.field.specs.Evaluation.{power}
 use Rattle.field.specs.declared.element.Element.{Ghosts}

@@ -1,11 +1,11 @@
 -- What the maker answers annihilates the subkey; what it refuses is seen below the highest coefficient.
-use Rattle.std.proofs.Common.{◌≡◌, ℕ, zero, suc, ◌+◌, ◌<◌, Bool, List, [], ◌∷◌, ◌++◌, length, get_or, sym, refl, ap, ◌∙◌, subst, zero-add, arith, length-append}
+use Rattle.std.proofs.Common.{◌≡◌, ℕ, zero, suc, ◌+◌, ◌<◌, Bool, List, [], ◌∷◌, ◌++◌, length, sym, ap, ◌∙◌, subst, zero-add, arith, length-append}
 use Rattle.std.proofs.lemmas.List.FromFn.{length-map-range_with_len}
 use Rattle.std.proofs.lemmas.List.{get_or_append_left}
 use Rattle.field.specs.Ring.{CommutativeRing}
 use Rattle.field.specs.Evaluation.{power}
 use Rattle.field.specs.declared.element.Element.{Ghosts}
-use Rattle.polynomial.specs.Polynomials.{value_at, element, stored, Annihilates, conjugates, factors_at, SomeNeither}
+use Rattle.polynomial.specs.Polynomials.{value_at, element, stored, Annihilates, conjugates, SomeNeither}
 use Rattle.polynomial.specs.Steps.{lower}
 use Rattle.polynomial.proofs.Conjugates.{conjugates_lower}
 use Rattle.polynomial.proofs.Values.{value_push, one_product, conjugates_value, factors_vanish}

@@ -1,5 +1,5 @@
 -- The product with t + z, made in place from the lowest coefficient on.
-use Rattle.std.proofs.Common.{◌≡◌, ℕ, ◌+◌, ◌<◌, ◌≤◌, List, [], ◌∷◌, ◌++◌, length, get_or, take, drop, set, sym, refl, ap, ◌∙◌, subst, ap₂, append_assoc, append-nil, add-zero, arith, length-set, length-take}
+use Rattle.std.proofs.Common.{◌≡◌, ℕ, ◌+◌, ◌<◌, ◌≤◌, List, [], ◌∷◌, ◌++◌, length, get_or, take, drop, set, sym, ap, ◌∙◌, subst, ap₂, append_assoc, add-zero, arith, length-take}
 use Rattle.std.proofs.lemmas.List.{get_or-take, get_or-drop, drop_more, take_more_set, drop-set-lt, drop-drop, drop_all, take-append-drop}
 use Rattle.field.specs.declared.element.Element.{Ghosts}
 use Rattle.polynomial.specs.Steps.{raised}

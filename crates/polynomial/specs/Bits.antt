@@ -1,5 +1,5 @@
 -- The coefficients of elements and proposals as bits.
-use Rattle.std.specs.Prelude.{ℕ, zero, suc, ◌+◌, Bool, true, false, cond, not, ◌==◌, nat_lt}
+use Rattle.std.specs.Prelude.{ℕ, zero, suc, ◌+◌, Bool, false, cond, not, ◌==◌, nat_lt}
 use Rattle.field.specs.Binary.{Kind}
 
 -- whether the coefficient of index k is one; past the width there is none

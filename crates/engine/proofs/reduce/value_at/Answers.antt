@@ -1,4 +1,4 @@
-use Rattle.std.proofs.Common.{◌≡◌, ℕ, ◌+◌, ◌-◌, ◌<◌, List, [], ◌∷◌, length, drop, sym, ap, ◌∙◌, subst, ap₂, arith}
+use Rattle.std.proofs.Common.{◌≡◌, ℕ, ◌+◌, ◌-◌, ◌<◌, List, [], ◌∷◌, length, drop, sym, ap, ◌∙◌, ap₂, arith}
 use Rattle.std.proofs.lemmas.List.{drop_more, drop_all}
 use Rattle.field.specs.Kinds.{block_ring}
 use Rattle.field.specs.declared.kinds.Block.{Block}
@@ -11,7 +11,7 @@ pub loop-j-init : goal.loop-j-init
 loop-j-init c =
     let state : List Block = c.args.state.now in
     let none : drop (length state - 0) state ≡ [] = drop_all (length state - 0) state (omega arith) in
-    c.zero_sum.ensures ∙ ap (value_at block_ring c.args.key) (sym none)
+    c.zero-sum.ensures ∙ ap (value_at block_ring c.args.key) (sym none)
 
 pub loop-j-preserved : goal.loop-j-preserved
 loop-j-preserved c =

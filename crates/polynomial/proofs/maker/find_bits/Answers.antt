@@ -1,4 +1,4 @@
-use Rattle.std.proofs.Common.{◌≡◌, ℕ, List, ◌++◌, take, drop, ap, ◌∙◌, subst, MatchOption}
+use Rattle.std.proofs.Common.{◌≡◌, ℕ, List, take, drop, ap, ◌∙◌, subst, MatchOption}
 use Rattle.std.proofs.lemmas.List.{take_at, drop_at}
 use Rattle.polynomial.specs.Polynomials.{stored, SomeNeither}
 use Rattle.polynomial.specs.Steps.{lower}

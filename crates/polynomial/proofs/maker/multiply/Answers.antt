@@ -1,4 +1,4 @@
-use Rattle.std.proofs.Common.{◌≡◌, ℕ, List, ◌++◌, length, take, drop, sym, refl, ap, ◌∙◌, subst, arith}
+use Rattle.std.proofs.Common.{◌≡◌, ℕ, List, ◌++◌, take, drop, sym, refl, ap, ◌∙◌, subst, arith}
 use Rattle.polynomial.specs.Steps.{raised}
 use Rattle.polynomial.proofs.Raising.{raise_more, after_more, raise_all}
 use Rattle.polynomial.proofs.maker.multiply.Goals as goal

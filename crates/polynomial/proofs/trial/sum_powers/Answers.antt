@@ -35,7 +35,7 @@ loop-k-preserved g c = λ key powers.
 
 pub loop-k-init : goal.loop-k-init
 unfolding stored
-loop-k-init g c = λ key powers. c.zero_sum.ensures
+loop-k-init g c = λ key powers. c.zero-sum.ensures
 
 pub returns : goal.returns
 returns g c = λ key powers.

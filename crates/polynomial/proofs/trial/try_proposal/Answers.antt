@@ -1,4 +1,4 @@
-use Rattle.std.proofs.Common.{sym, refl, ◌∙◌, inl, inr, arith, rules}
+use Rattle.std.proofs.Common.{sym, refl, ◌∙◌, inr, arith, rules}
 use Rattle.polynomial.proofs.trial.try_proposal.Goals as goal
 
 pub returns-then-not-is_zero : goal.returns-then-not-is_zero

@@ -1,9 +1,7 @@
-use Rattle.std.proofs.Common.{◌≡◌, List, refl, ap, ◌∙◌}
+use Rattle.std.proofs.Common.{refl, ap, ◌∙◌}
 use Rattle.field.specs.Kinds.{block_ring}
-use Rattle.field.specs.declared.kinds.Block.{Block}
 use Rattle.field.specs.Instances.{block_ring_laws}
 use Rattle.polynomial.specs.Polynomials.{value_at}
-use Rattle.engine.specs.declared.division.Division.{Division}
 use Rattle.engine.proofs.RemainderValues.{alone_value}
 use Rattle.engine.proofs.division.DivisionEngine.resume.Goals as goal
 
