@@ -1,5 +1,5 @@
 -- The rows of the table.
-use Rattle.std.proofs.Common.{◌≡◌, ℕ, List, [], ◌∷◌, replicate, refl, ap, ◌∙◌, ap₂, arith}
+use Rattle.std.proofs.Common.{◌≡◌, ℕ, [], ◌∷◌, replicate, refl, ap, ◌∙◌, ap₂, arith}
 use Rattle.field.specs.Binary.{multiplied, shifted}
 use Rattle.field.specs.Digits.{numeral, digits}
 use Rattle.field.specs.Evaluation.{eval, power}
@@ -10,7 +10,7 @@ use Rattle.field.proofs.Horner.{zero_product}
 use Rattle.field.specs.Instances.{same_block, same_nibble, same_word, block_ring_laws}
 use Rattle.polynomial.specs.Polynomials.{stored, conjugates}
 use Rattle.message.specs.Blocks.{blocks, block_of_lengths}
-use Rattle.message.specs.Hash.{hash_of, tag_of}
+use Rattle.message.specs.Hash.{hash_of}
 use Rattle.readings.specs.Table.{Table}
 
 no_lengths : block_of_lengths [] [] ≡ block_ring.zero
@@ -41,7 +41,7 @@ table = record {
   nibble_value_row = same_nibble _ _ refl;
   nibble_modulus_row = same_nibble _ _ refl;
   word_one_row = same_word _ _ refl;
-  word_two = same_word _ _ refl;
+  word_two_row = same_word _ _ refl;
   block_value_row = same_block _ _ refl;
   first_proposal_row = same_nibble _ _ refl;
   second_proposal_row = same_nibble _ _ refl;

@@ -1,4 +1,4 @@
-use Rattle.std.proofs.Common.{◌≡◌, [], ◌∷◌, ap, ◌∙◌, ap₂}
+use Rattle.std.proofs.Common.{◌≡◌, [], ◌∷◌, ◌∙◌, ap₂}
 use Rattle.field.specs.Evaluation.{eval}
 use Rattle.field.specs.Kinds.{nibble, nibble_ring}
 use Rattle.field.specs.declared.kinds.Nibble.{Nibble}

@@ -1,11 +1,9 @@
-use Rattle.std.proofs.Common.{◌≡◌, [], ◌∷◌, Ok, Err, Result, ap, ◌∙◌}
-use Rattle.field.specs.Kinds.{block_ring}
+use Rattle.std.proofs.Common.{◌≡◌, [], ◌∷◌, Ok, Result, ap, ◌∙◌}
 use Rattle.field.specs.declared.kinds.Block.{Block}
-use Rattle.message.specs.Answer.{answer}
-use Rattle.message.specs.Hash.{hash_of, tag_of}
+use Rattle.message.specs.Hash.{hash_of}
 use Rattle.message.specs.declared.digest.Digest.{Digest}
 use Rattle.refusal.specs.declared.Refusal.{Refusal}
-use Rattle.readings.specs.Table.{Table, first, expected}
+use Rattle.readings.specs.Table.{first}
 use Rattle.readings.specs.declared.Readings.{Readings}
 use Rattle.readings.proofs.Rows.{table}
 use Rattle.readings.proofs.take_readings.Goals as goal
