@@ -1,5 +1,5 @@
 -- Lists of calls with their answers, joined end to end.
-use Rattle.std.proofs.Common.{◌≡◌, ℕ, zero, suc, ◌<◌, Bool, true, false, cond, List, [], ◌∷◌, ◌++◌, map, length, drop, is_ok, Ok, Err, sym, refl, ap, ◌∙◌, subst, ap₂, append_assoc, append-nil, arith, Bor, MatchResult}
+use Rattle.std.proofs.Common.{◌≡◌, ℕ, suc, Bool, true, false, cond, List, [], ◌∷◌, ◌++◌, map, length, drop, is_ok, Ok, Err, sym, refl, ap, ◌∙◌, subst, ap₂, append_assoc, append-nil, arith, Bor, MatchResult}
 use Rattle.std.proofs.lemmas.List.{drop_at, drop_all}
 use Rattle.field.specs.declared.kinds.Block.{Block}
 use Rattle.engine.specs.Chain.{Operation, absorb, Chain}
@@ -7,7 +7,7 @@ use Rattle.engine.specs.Hashing.{switch_answer}
 use Rattle.engine.specs.declared.engine.Engine.{Ghosts}
 use Rattle.engine.proofs.Chains.{chain_append}
 use Rattle.job.specs.Cuts.{full_blocks, left_over}
-use Rattle.job.specs.Jobs.{Fed, Switched, Holds, pending}
+use Rattle.job.specs.Jobs.{Fed, Switched, Holds}
 use Rattle.message.specs.Limits.{refusal_of_part}
 use Rattle.job.specs.Plain.{Answer, fits, feed_answer, joined, answer_to, brought, accepted, answers_to}
 use Rattle.job.specs.Runs.{new_blocks, operations_for, operations_of, Answered}

@@ -1,10 +1,11 @@
 -- The end of a job.
-use Rattle.std.proofs.Common.{◌≡◌, ℕ, Bool, List, [], ◌∷◌, ◌++◌, length, ap, ◌∙◌, ap₂, append_assoc}
+use Rattle.std.proofs.Common.{◌≡◌, ℕ, Bool, List, [], ◌∷◌, ◌++◌, sym, ap, ◌∙◌, ap₂, append_assoc}
 use Rattle.field.specs.Evaluation.{eval}
 use Rattle.field.specs.Kinds.{block_ring}
 use Rattle.field.specs.declared.kinds.Block.{Block}
-use Rattle.message.specs.Blocks.{blocks, block_of_lengths}
+use Rattle.message.specs.Blocks.{blocks, block_of_lengths, block_of_counts}
 use Rattle.message.specs.Hash.{hash_of}
+use Rattle.message.proofs.StandardHash.{lengths_counts}
 use Rattle.engine.specs.Rows.{Hashed}
 use Rattle.engine.specs.declared.engine.Engine.{Ghosts}
 use Rattle.engine.proofs.HashedRows.{hashed_eval}
@@ -14,14 +15,14 @@ use Rattle.job.specs.declared.state.BodyJob.{BodyJob}
 use Rattle.job.proofs.Feeding.{flushed_value}
 
 module _ {E : Type 0} (m : Ghosts E) (j : BodyJob E) (t : Filling E) (e : E) (flushed : Flushed m j.filling t)
-    (last : Hashed m t.engine (block_of_lengths j.header j.filling.count ∷ []) e) where
+    (last : Hashed m t.engine (block_of_counts j.header j.filling.count ∷ []) e) where
   pub closed_value : (h : Block) (switches : Bool) (header body : List ℕ) → BodyHolds m h switches j header body → m.value_of e ≡ hash_of h header body
   unfolding hash_of
   closed_value h switches header body held =
-      let lengths : block_of_lengths j.header j.filling.count ≡ block_of_lengths (length header) (length body) =
-      ap₂ block_of_lengths held.before held.holds.count in
-      hashed_eval m h t.engine e (blocks header ++ blocks body) (block_of_lengths j.header j.filling.count ∷ []) last
+      let lengths : block_of_counts j.header j.filling.count ≡ block_of_lengths header body =
+      ap₂ block_of_counts held.before held.holds.count ∙ sym (lengths_counts header body) in
+      hashed_eval m h t.engine e (blocks header ++ blocks body) (block_of_counts j.header j.filling.count ∷ []) last
       (flushed.hashed.subkey ∙ held.holds.subkey) (flushed_value m h switches (blocks header) j.filling t body held.holds flushed)
       ∙ ap (eval block_ring h)
-      (append_assoc (blocks header) (blocks body) (block_of_lengths j.header j.filling.count ∷ [])
+      (append_assoc (blocks header) (blocks body) (block_of_counts j.header j.filling.count ∷ [])
       ∙ ap (λ p. blocks header ++ (blocks body ++ (p ∷ []))) lengths)

@@ -1,5 +1,5 @@
 -- The evaluation of two rows of one length, xored.
-use Rattle.std.proofs.Common.{◌≡◌, ℕ, zero, suc, ◌+◌, List, [], ◌∷◌, ◌++◌, length, sym, refl, ap, ◌∙◌, ap₂, arith, length-append}
+use Rattle.std.proofs.Common.{◌≡◌, ℕ, suc, ◌+◌, List, [], ◌∷◌, ◌++◌, length, sym, refl, ap, ◌∙◌, ap₂, arith, length-append}
 use Rattle.field.specs.Evaluation.{power, eval}
 use Rattle.field.specs.Kinds.{block_ring}
 use Rattle.field.specs.declared.kinds.Block.{Block}
@@ -8,8 +8,14 @@ use Rattle.field.specs.Instances.{block_ring_laws}
 use Rattle.message.specs.Blocks.{blocks_taken, blocks, block_of_lengths, block_list}
 use Rattle.message.specs.Hash.{hash_of}
 use Rattle.message.proofs.Cutting.{length_blocks}
-use Rattle.engine.proofs.RemainderValues.{four}
 use Rattle.job.specs.Differences.{xored, SameLengths, difference_of}
+
+four : (a b c d : Block) → block_ring.sum (block_ring.sum a b) (block_ring.sum c d) ≡ block_ring.sum (block_ring.sum a c) (block_ring.sum b d)
+four a b c d =
+    block_ring_laws.sum_assoc a b (block_ring.sum c d)
+    ∙ ap (block_ring.sum a)
+    (sym (block_ring_laws.sum_assoc b c d) ∙ ap (λ x. block_ring.sum x d) (block_ring_laws.sum_comm b c) ∙ block_ring_laws.sum_assoc c b d)
+    ∙ sym (block_ring_laws.sum_assoc a c (block_ring.sum b d))
 
 length_xored : (ps qs : List Block) → length ps ≡ length qs → length (xored ps qs) ≡ length ps
 length_xored [] qs same = refl
@@ -27,14 +33,14 @@ eval_xored h (p ∷ ps) (q ∷ qs) same =
     ap₂ block_ring.sum
     (ap (λ n. block_ring.product (block_ring.sum p q) (power block_ring h (suc n))) (length_xored ps qs one_less) ∙ sum_product block_ring block_ring_laws p q w)
     (eval_xored h ps qs one_less)
-    ∙ four block_ring block_ring_laws h (block_ring.product p w) (block_ring.product q w) (eval block_ring h ps) (eval block_ring h qs)
+    ∙ four (block_ring.product p w) (block_ring.product q w) (eval block_ring h ps) (eval block_ring h qs)
     ∙ ap (λ n. block_ring.sum (eval block_ring h (p ∷ ps)) (block_ring.sum (block_ring.product q (power block_ring h (suc n))) (eval block_ring h qs))) one_less
 
 block_count_same : (header body : List ℕ) → length (block_list header body) ≡ blocks_taken (length header) + (blocks_taken (length body) + 1)
 block_count_same header body =
-    length-append (blocks header) (blocks body ++ (block_of_lengths (length header) (length body) ∷ []))
+    length-append (blocks header) (blocks body ++ (block_of_lengths header body ∷ []))
     ∙ ap₂ (λ m n. m + n) (length_blocks header)
-    (length-append (blocks body) (block_of_lengths (length header) (length body) ∷ []) ∙ ap (λ n. n + 1) (length_blocks body))
+    (length-append (blocks body) (block_of_lengths header body ∷ []) ∙ ap (λ n. n + 1) (length_blocks body))
 
 pub hashes_differ : (h : Block) (header body header' body' : List ℕ) → SameLengths header body header' body'
     → block_ring.sum (hash_of h header body) (hash_of h header' body') ≡ difference_of h header body header' body'

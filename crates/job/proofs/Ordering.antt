@@ -1,13 +1,14 @@
 -- What an engine goes through in a whole job, in order.
-use Rattle.std.proofs.Common.{◌≡◌, ℕ, Bool, List, [], ◌∷◌, ◌++◌, map, length, drop, is_ok, sym, refl, ap, ◌∙◌, ap₂, append_assoc, append-nil}
+use Rattle.std.proofs.Common.{◌≡◌, ℕ, List, [], ◌∷◌, ◌++◌, map, length, drop, is_ok, sym, refl, ap, ◌∙◌, ap₂, append_assoc, append-nil}
 use Rattle.std.proofs.lemmas.List.{drop_at}
 use Rattle.field.specs.Kinds.{block_ring}
 use Rattle.field.specs.declared.kinds.Block.{Block}
-use Rattle.message.specs.Blocks.{blocks, block_of_lengths, block_list}
-use Rattle.engine.specs.Chain.{Operation, resume, absorb, switch}
+use Rattle.message.specs.Blocks.{blocks, block_of_counts}
+use Rattle.message.proofs.StandardHash.{lengths_counts}
+use Rattle.engine.specs.Chain.{Operation, absorb}
 use Rattle.job.specs.Cuts.{full_blocks, left_over}
 use Rattle.job.specs.Plain.{Answer, brought, accepted}
-use Rattle.job.specs.Runs.{new_blocks, final_block, operations_for, operations_of, run_operations, gathered, absorb_of, switch_of, resume_of, switch_answers, InOrder}
+use Rattle.job.specs.Runs.{new_blocks, final_block, operations_for, operations_of, gathered, absorb_of, switch_of, resume_of, switch_answers, InOrder}
 use Rattle.job.specs.declared.call.Call.{Call}
 use Rattle.job.specs.declared.call.Call.TheVariants.{Feed, Switch}
 use Rattle.job.proofs.Answering.{new_blocks_follow, no_new_blocks}
@@ -93,7 +94,7 @@ pub in_order : (hs : List Call) (xs : List Answer) (bs : List Call) (ys : List A
 in_order hs xs bs ys =
     let header : List ℕ = accepted hs xs in
     let body : List ℕ = accepted bs ys in
-    let lengths : Block = block_of_lengths (length header) (length body) in
+    let lengths : Block = block_of_counts (length header) (length body) in
     let ends : List Block = final_block body ++ (lengths ∷ []) in
     record {
       resumes =
@@ -109,7 +110,7 @@ in_order hs xs bs ys =
           (ap₂ (λ us vs. us ++ vs) (absorbs_in [] bs ys) (absorbs_of ends)))
           ∙ sym (append_assoc (new_blocks [] header) (final_block header) (new_blocks [] body ++ ends))
           ∙ ap₂ (λ us vs. us ++ vs) (whole_part header)
-          (sym (append_assoc (new_blocks [] body) (final_block body) (lengths ∷ [])) ∙ ap (λ us. us ++ (lengths ∷ [])) (whole_part body));
+          (sym (append_assoc (new_blocks [] body) (final_block body) (lengths ∷ [])) ∙ ap₂ (λ us p. us ++ (p ∷ [])) (whole_part body) (sym (lengths_counts header body)));
       switches =
           four_parts switch_of (operations_of [] hs xs) (map absorb (final_block header)) (operations_of [] bs ys) (map absorb ends)
           ∙ ap₂ (λ us vs. us ++ vs) (switches_in [] hs xs)

@@ -1,5 +1,5 @@
 -- Jobs that hold the same are the same, and answers by cases.
-use Rattle.std.proofs.Common.{◌≡◌, ℕ, ◌≤◌, Ok, Err, Result, MatchResult}
+use Rattle.std.proofs.Common.{◌≡◌, ◌≤◌, Ok, Err, Result, MatchResult}
 use mathlib.Core.HLevel.{is_prop→PathP}
 use native.Mathlib.Bridge.{le_prop}
 use Rattle.job.specs.declared.state.HeaderJob.{HeaderJob}

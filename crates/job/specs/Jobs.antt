@@ -3,7 +3,7 @@ use Rattle.std.specs.Prelude.{◌≡◌, ℕ, ◌+◌, Bool, List, [], ◌∷◌
 use Rattle.field.specs.Evaluation.{eval}
 use Rattle.field.specs.Kinds.{block_ring}
 use Rattle.field.specs.declared.kinds.Block.{Block}
-use Rattle.message.specs.Blocks.{AreBytes, blocks, block_of_lengths}
+use Rattle.message.specs.Blocks.{AreBytes, blocks, block_of_counts}
 use Rattle.message.specs.Hash.{hash_of, tag_of}
 use Rattle.engine.specs.Rows.{Hashed}
 use Rattle.engine.specs.declared.engine.Engine.{Ghosts}
@@ -62,7 +62,7 @@ module _ {E : Type 0} (m : Ghosts E) where
 
   -- The body's last block and the length block were hashed.
   abbrev pub ClosedBy : BodyJob E → E → Type 0
-  ClosedBy j e = Hashed m j.filling.engine (blocks (pending j.filling) ++ (block_of_lengths j.header j.filling.count ∷ [])) e
+  ClosedBy j e = Hashed m j.filling.engine (blocks (pending j.filling) ++ (block_of_counts j.header j.filling.count ∷ [])) e
 
   -- A closed job: hash and tag of these bytes under the subkey and the pad; the engine has its subkey and ready, and T is the hash.
   pub record Closes (h : Block) (switches : Bool) (pad : Block) (closed : Closed E) (header body : List ℕ) : Type 0 where

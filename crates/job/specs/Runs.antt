@@ -3,7 +3,7 @@ use Rattle.std.specs.Prelude.{◌≡◌, ℕ, ◌≤◌, Bool, List, [], ◌∷�
 use Rattle.field.specs.Kinds.{block_ring}
 use Rattle.field.specs.declared.kinds.Block.{Block}
 use Rattle.message.specs.Limits.{header_limit, body_limit}
-use Rattle.message.specs.Blocks.{blocks, block_of_lengths, block_list}
+use Rattle.message.specs.Blocks.{blocks, block_of_counts, block_list}
 use Rattle.message.specs.Standard.{MeetsStandard}
 use Rattle.engine.specs.Chain.{Operation, resume, absorb, switch, Chain}
 use Rattle.engine.specs.declared.engine.Engine.{Ghosts}
@@ -44,7 +44,7 @@ run_operations hs xs bs ys =
     ∷ (operations_of [] hs xs
     ++ (map absorb (final_block header)
     ++ (operations_of [] bs ys
-    ++ map absorb (final_block body ++ (block_of_lengths (length header) (length body) ∷ [])))))
+    ++ map absorb (final_block body ++ (block_of_counts (length header) (length body) ∷ [])))))
 
 -- what each operation gives, joined
 abbrev pub gathered : {X : Type 0} → (Operation → List X) → List Operation → List X

@@ -10,7 +10,7 @@ ghost use Rattle.message.specs.declared.part.Part.TheVariants.{Body};
 use crate::state::{BodyJob, Closed, Filling};
 use engine::Engine;
 use field::{Block, Element};
-use message::{Part, length_block};
+use message::{Part, block_of_byte_counts};
 use refusal::Refusal;
 
 impl<E: Engine> BodyJob<E> {
@@ -46,7 +46,7 @@ impl<E: Engine> BodyJob<E> {
             count,
         } = filling;
         let mut engine = engine;
-        engine.absorb(length_block(header, count));
+        engine.absorb(block_of_byte_counts(header, count));
         let hash = engine.value();
         let tag = hash.plus(pad);
         Closed { engine, hash, tag }

@@ -16,8 +16,8 @@ use refusal::Refusal;
 impl<E: Engine> HeaderJob<E> {
     // The engine starts at zero, whatever it hashed before.
     pub fn start(engine: E) -> HeaderJob<E>
-        ensures holds { HeaderHolds E.Engine (subkey_of engine) (ready_of engine) result [] }
-        ensures whole { resumed engine block_ring.zero result.filling.engine }
+        ensures holds { HeaderHolds E.Engine (E.subkey_of engine) (E.ready_of engine) result [] }
+        ensures whole { E.resumed engine block_ring.zero result.filling.engine }
     {
         let mut engine = engine;
         engine.resume(Block::zero());

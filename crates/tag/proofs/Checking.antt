@@ -1,5 +1,5 @@
 -- The check of a tag, by the ways through it.
-use Rattle.std.proofs.Common.{◌≡◌, ℕ, ◌≤◌, Bool, true, false, cond, ◌&&◌, eqb, List, length, take, Ok, Err, MatchBool, Result, sym, refl, ap, ◌∙◌, subst, ap₂, le-leb}
+use Rattle.std.proofs.Common.{◌≡◌, ℕ, ◌≤◌, Bool, false, cond, ◌&&◌, eqb, List, length, take, Ok, Err, MatchBool, Result, sym, refl, ap, ◌∙◌, subst, ap₂, le-leb}
 use Rattle.std.specs.Str.{bytes_eq}
 use Rattle.std.proofs.lemmas.Bool.{cond-true}
 use Rattle.field.specs.Bytes.{bytes_of}

@@ -18,8 +18,8 @@ pub fn tag_message<E: Engine>(
     header: &[u8],
     body: &[u8],
 ) -> Result<Tagged, Refusal>
-    ensures answer { result ≡ tag_answer (subkey_of engine.old) pad header.now body.now }
-    ensures standard { IfOk result (λ t. MeetsStandard (subkey_of engine.old) pad header.now body.now t.hash t.tag) }
+    ensures answer { result ≡ tag_answer (E.subkey_of engine.old) pad header.now body.now }
+    ensures standard { IfOk result (λ t. MeetsStandard (E.subkey_of engine.old) pad header.now body.now t.hash t.tag) }
     ensures engine { MatchResult result (λ _. Ran E.Engine engine.old header.now body.now engine.new) (λ _. engine.new ≡ engine.old) }
 {
     check_lengths(header, body)?;
@@ -38,7 +38,7 @@ pub fn check_tag<E: Engine>(
     body: &[u8],
     given: &[u8],
 ) -> Result<(), Refusal>
-    ensures answer { result ≡ check_answer (subkey_of engine.old) pad header.now body.now given.now }
+    ensures answer { result ≡ check_answer (E.subkey_of engine.old) pad header.now body.now given.now }
     ensures engine { CheckRan E.Engine engine.old header.now body.now engine.new result }
 {
     if given.len() < 4 || given.len() > 16 {

@@ -7,7 +7,7 @@ ghost use Rattle.tag.specs.Tags.{Ran};
 
 use engine::Engine;
 use field::{Block, Element};
-use message::{block_of, length_block};
+use message::{block_of, block_of_byte_counts};
 
 // The blocks of one part.
 fn absorb_part<E: Engine>(engine: &mut E, part: &[u8])
@@ -20,12 +20,12 @@ fn absorb_part<E: Engine>(engine: &mut E, part: &[u8])
 
 // From zero, whatever the engine hashed before: header, body and length block.
 pub(crate) fn hash_message<E: Engine>(engine: &mut E, header: &[u8], body: &[u8]) -> Block
-    ensures answer { result ≡ hash_of (subkey_of engine.old) header.now body.now }
+    ensures answer { result ≡ hash_of (E.subkey_of engine.old) header.now body.now }
     ensures engine { Ran E.Engine engine.old header.now body.now engine.new }
 {
     engine.resume(Block::zero());
     absorb_part(engine, header);
     absorb_part(engine, body);
-    engine.absorb(length_block(header.len() as u64, body.len() as u64));
+    engine.absorb(block_of_byte_counts(header.len() as u64, body.len() as u64));
     engine.value()
 }

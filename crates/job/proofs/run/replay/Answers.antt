@@ -1,6 +1,6 @@
 use Rattle.std.proofs.Common.{◌≡◌, ℕ, ◌≤◌, List, [], ◌∷◌, ◌++◌, map, length, vec_items, sym, ap, ◌∙◌, subst, ap₂}
 use Rattle.field.specs.declared.kinds.Block.{Block}
-use Rattle.message.specs.Blocks.{blocks, block_of_lengths}
+use Rattle.message.specs.Blocks.{blocks, block_of_counts}
 use Rattle.engine.specs.Chain.{absorb, Chain}
 use Rattle.engine.proofs.Chains.{chain_append}
 use Rattle.job.specs.Jobs.{pending}
@@ -29,11 +29,11 @@ returns g c =
     let first = c.answer_all.ensures.answered h given [] [] c.start-job.ensures.holds in
     let turned = c.turn-job.ensures.holds h given header first.holds in
     let second = c.answer_all-2.ensures.answered h given (blocks header) [] turned.holds in
-    let last : List Block = final_block body ++ (block_of_lengths (length header) (length body) ∷ []) in
+    let last : List Block = final_block body ++ (block_of_counts (length header) (length body) ∷ []) in
     let turn : Chain m (map absorb (final_block header)) f.engine j.filling.engine =
     subst (λ (ps : List Block). Chain m (map absorb ps) f.engine j.filling.engine) (ap blocks first.holds.left ∙ sym (last_left header)) c.turn-job.ensures.whole.hashed.chain in
-    let lengths : block_of_lengths j.header t.count ≡ block_of_lengths (length header) (length body) = ap₂ block_of_lengths turned.before second.holds.count in
-    let ends : blocks (pending t) ++ (block_of_lengths j.header t.count ∷ []) ≡ last =
+    let lengths : block_of_counts j.header t.count ≡ block_of_counts (length header) (length body) = ap₂ block_of_counts turned.before second.holds.count in
+    let ends : blocks (pending t) ++ (block_of_counts j.header t.count ∷ []) ≡ last =
     ap₂ (λ ps p. ps ++ (p ∷ [])) (ap blocks second.holds.left ∙ sym (last_left body)) lengths in
     let close : Chain m (map absorb last) t.engine e = subst (λ (ps : List Block). Chain m (map absorb ps) t.engine e) ends c.close.ensures.whole.chain in
     record {

@@ -1,4 +1,4 @@
-use Rattle.std.proofs.Common.{◌≡◌, ℕ, true, false, List, Ok, Err, Result, refl, ap, ◌∙◌, arith}
+use Rattle.std.proofs.Common.{◌≡◌, ℕ, true, false, List, Err, Result, refl, ap, ◌∙◌, arith}
 use Rattle.std.proofs.lemmas.Result.{err_from_is_err_and}
 use Rattle.field.specs.declared.kinds.Block.{Block}
 use Rattle.refusal.specs.declared.Refusal.{Refusal}
@@ -13,8 +13,8 @@ returns-in_err-tagged g c =
     let subkey : Block = g.E.Engine.subkey_of c.args.engine.now in
     let header : List ℕ = c.args.header.now in
     let body : List ℕ = c.args.body.now in
-    let told = err_from_is_err_and c.from-residual.result c.from-residual.ensures.1 in
-    let said : c.from-residual.result ≡ refused c.in_err-tagged.field-0.0 = told.1 ∙ ap refused told.2 in
+    let told = err_from_is_err_and c.from_residual.result c.from_residual.ensures.1 in
+    let said : c.from_residual.result ≡ refused c.in_err-tagged.field-0.0 = told.1 ∙ ap refused told.2 in
     let long = c.in_err-tagged.ensures.answer in
     record {
       answer = said ∙ checked subkey c.args.pad header body c.args.given.now (omega arith) (omega arith) (Err _) _ long refl;

@@ -11,7 +11,7 @@ use Rattle.tag.proofs.hash.absorb_part.Goals as goal
 
 pub loop-piece-init : goal.loop-piece-init
 loop-piece-init g c =
-    let same = ap chunks_rest c.into-iter-piece-iterator.ensures.into-iter-gives ∙ c.chunks-piece-items.ensures.rest in
+    let same = ap chunks_rest c.into_iter-piece-iterator.ensures.into_iter_gives ∙ c.chunks-piece-items.ensures.rest in
     ([], hashed_none g.E.Engine c.args.engine.now, ap blocks same, search rules)
 
 pub loop-piece-preserved : goal.loop-piece-preserved

@@ -1,7 +1,7 @@
 use Rattle.std.proofs.Common.{◌≡◌, [], ◌∷◌, sym, ap, ◌∙◌, subst}
 use Rattle.field.specs.Kinds.{block_ring}
 use Rattle.field.specs.declared.kinds.Block.{Block}
-use Rattle.message.specs.Blocks.{blocks, block_of_lengths}
+use Rattle.message.specs.Blocks.{blocks, block_of_counts}
 use Rattle.message.specs.Hash.{tag_of}
 use Rattle.message.specs.Standard.{MeetsStandard}
 use Rattle.message.proofs.StandardHash.{meets_standard}
@@ -20,9 +20,9 @@ returns g c =
     let pad = c.args.pad in
     let flushed = c.flush.ensures in
     let said = c.absorb.ensures in
-    let counted : c.length_block.result ≡ block_of_lengths j.header f.count =
-    c.length_block.ensures ∙ ap (block_of_lengths j.header) flushed.count in
-    let last = hashed_one m t.engine e c.length_block.result (block_of_lengths j.header f.count) said.value said.subkey said.ready said.whole counted in
+    let counted : c.block_of_byte_counts.result ≡ block_of_counts j.header f.count =
+    c.block_of_byte_counts.ensures ∙ ap (block_of_counts j.header) flushed.count in
+    let last = hashed_one m t.engine e c.block_of_byte_counts.result (block_of_counts j.header f.count) said.value said.subkey said.ready said.whole counted in
     let answer = c.value-hash.ensures.answer in
     record {
       closes = λ h switches header body held.
@@ -40,5 +40,5 @@ returns g c =
           subst (λ (x : Block). MeetsStandard h pad header body c.value-hash.result x) (sym tagged)
           (subst (λ (x : Block). MeetsStandard h pad header body x (tag_of h pad header body)) (sym value)
           (meets_standard h pad header body held.bytes held.holds.bytes));
-      whole = hashed_append m f.engine t.engine e (blocks (pending f)) (block_of_lengths j.header f.count ∷ []) flushed.hashed last;
+      whole = hashed_append m f.engine t.engine e (blocks (pending f)) (block_of_counts j.header f.count ∷ []) flushed.hashed last;
     }

@@ -1,4 +1,4 @@
-use Rattle.std.proofs.Common.{◌≡◌, ℕ, ◌≤◌, [], ◌∷◌, sym, ◌∙◌, subst}
+use Rattle.std.proofs.Common.{ℕ, ◌≤◌, [], ◌∷◌, sym, subst}
 use Rattle.message.specs.Limits.{limit_of}
 use Rattle.job.specs.Runs.{Answered}
 use Rattle.job.specs.declared.call.Call.{Call}

@@ -9,5 +9,5 @@ abbrev pub invariant-loop-i : goal.invariant-loop-i
 invariant-loop-i g l =
     let m = g.E.Engine in
     (l.self.count ≤ limit_of l.part) × (length l.calls ≤ vec_capacity l.answers) × (vec_len l.answers ≡ l.i)
-    × ((h : Block) (goal : Bool) (before : List Block) (taken : List ℕ) → Holds m h goal before l.initial.self taken
-    → Answered m l.part h goal before l.initial.self taken (take l.i l.calls) (vec_items l.answers) l.self)
+    × ((h : Block) (given : Bool) (before : List Block) (taken : List ℕ) → Holds m h given before l.initial.self taken
+    → Answered m l.part h given before l.initial.self taken (take l.i l.calls) (vec_items l.answers) l.self)

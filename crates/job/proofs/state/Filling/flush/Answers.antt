@@ -1,4 +1,4 @@
-use Rattle.std.proofs.Common.{◌≡◌, ℕ, ◌<◌, List, [], ◌∷◌, ◌++◌, take, sym, refl, ap, ◌∙◌, subst, arith}
+use Rattle.std.proofs.Common.{◌≡◌, List, take, sym, refl, ap, subst, arith}
 use Rattle.field.specs.declared.kinds.Block.{Block}
 use Rattle.engine.specs.Rows.{Hashed}
 use Rattle.engine.proofs.HashedRows.{hashed_none, hashed_one}

@@ -1,4 +1,4 @@
-use Rattle.std.proofs.Common.{◌≡◌, ℕ, ◌+◌, ◌-◌, ◌<◌, List, [], ◌∷◌, ◌++◌, length, sym, refl, ap, ◌∙◌, subst, arith, rules}
+use Rattle.std.proofs.Common.{◌≡◌, ◌+◌, ◌-◌, ◌<◌, List, length, sym, refl, ◌∙◌, subst, arith}
 use Rattle.field.specs.declared.kinds.Block.{Block}
 use Rattle.engine.specs.Rows.{Hashed}
 use Rattle.engine.proofs.HashedRows.{hashed_none, hashed_one}
@@ -9,10 +9,12 @@ pub invariant_of-self-else-end-eq16 : goal.invariant_of-self-else-end-eq16
 invariant_of-self-else-end-eq16 g c =
     let f = c.args.self.now in
     let piece = c.args.piece.now in
-    let long : f.fill + length piece - f.fill ≡ length piece = omega arith in (
-      omega arith,
-      (still_blank f.held f.fill f.room f.blank piece _ c.copy_from_slice.ensures.after c.requires.room _ long, (omega arith, tt)),
-    )
+    let long : f.fill + length piece - f.fill ≡ length piece = omega arith in
+    record {
+      room = omega arith;
+      blank = still_blank f.held f.fill f.room f.blank piece _ c.copy_from_slice.ensures.after c.requires.room _ long;
+      few = omega arith;
+    }
 
 pub returns-then-end-eq16 : goal.returns-then-end-eq16
 returns-then-end-eq16 g c =

@@ -1,4 +1,4 @@
-use Rattle.std.proofs.Common.{◌≡◌, ℕ, ◌+◌, ◌≤◌, true, cond, List, ◌++◌, length, sym, refl, ap, ◌∙◌, subst, arith, le-leb}
+use Rattle.std.proofs.Common.{◌≡◌, ◌+◌, ◌≤◌, true, length, refl, arith, le-leb}
 use Rattle.message.specs.Limits.{limit_of}
 use Rattle.job.specs.Plain.{fits}
 use Rattle.job.proofs.Feeding.{holds_append}

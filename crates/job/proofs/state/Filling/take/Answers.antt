@@ -1,4 +1,4 @@
-use Rattle.std.proofs.Common.{◌≡◌, ℕ, ◌+◌, List, [], ◌∷◌, ◌++◌, length, take, sym, refl, ap, ◌∙◌, subst, arith}
+use Rattle.std.proofs.Common.{◌≡◌, ◌+◌, List, [], ◌++◌, length, take, sym, ap, ◌∙◌, subst, arith}
 use Rattle.field.specs.Bytes.{block_of}
 use Rattle.field.specs.declared.kinds.Block.{Block}
 use Rattle.engine.specs.Rows.{Hashed}

@@ -1,5 +1,4 @@
-use Rattle.std.proofs.Common.{◌≡◌, sym, refl, ap, ◌∙◌, subst, arith}
-use Rattle.field.specs.Kinds.{block_ring}
+use Rattle.std.proofs.Common.{refl, ◌∙◌, subst, arith}
 use Rattle.field.specs.declared.kinds.Block.{Block}
 use Rattle.job.specs.Cuts.{full_blocks, left_over}
 use Rattle.job.proofs.state.HeaderJob.start.Goals as goal
