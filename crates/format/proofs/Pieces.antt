@@ -1,7 +1,7 @@
 -- A part in pieces of 502 bytes.
 use Rattle.std.proofs.Common.{◌≡◌, ℕ, zero, suc, ◌+◌, ◌*◌, ◌/◌, ◌≤◌, List, [], ◌∷◌, ◌++◌, length, take, drop, sym, refl, ap, ◌∙◌, ap₂, inl, inr, arith, length-append, length-drop, take-append-drop}
 use Rattle.std.proofs.lemmas.List.{nil_from_length}
-use Rattle.message.proofs.Cutting.{Next, take_next, drop-next}
+use Rattle.message.proofs.Cutting.{Next, take_next, drop_next}
 use Rattle.format.specs.Layout.{cut_pieces, pieces}
 
 -- how many pieces n bytes take
@@ -30,7 +30,7 @@ module _ (piece more : List ℕ) (some : 1 ≤ length piece) (next : Next 502 pi
       let count : pieces_in (length (piece ++ more)) ≡ suc (pieces_in (length more)) =
       elim next [ inl full ↦ omega arith | inr short ↦ omega arith ] in
       ap (λ (n : ℕ). cut_pieces n (piece ++ more)) count
-      ∙ ap₂ (λ (p ys : List ℕ). p ∷ cut_pieces (pieces_in (length more)) ys) (take_next 502 piece more next) (drop-next 502 piece more next)
+      ∙ ap₂ (λ (p ys : List ℕ). p ∷ cut_pieces (pieces_in (length more)) ys) (take_next 502 piece more next) (drop_next 502 piece more next)
 
 -- pieces, one after the other
 abbrev pub joined : List (List ℕ) → List ℕ
