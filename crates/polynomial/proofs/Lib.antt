@@ -1,3 +1,4 @@
+pub mod Coefficients
 pub mod Values
 pub mod Conjugates
 pub mod Fill

@@ -6,7 +6,7 @@ ghost use Rattle.polynomial.specs.Blocks.{PolynomialTried};
 ghost use Rattle.polynomial.specs.Outcomes.{scratch_after};
 ghost use Rattle.field.specs.Instances.{block_even};
 ghost use Rattle.polynomial.specs.Coefficients.{no_ones, block_placed};
-ghost use Rattle.std.proofs.Common.{rules};
+ghost use Rattle.std.proofs.Common.{lit<};
 
 use crate::accepted::Accepted;
 use crate::binary::Binary;
@@ -19,7 +19,7 @@ impl Binary for Block {
 
     ghost bits = { λ b k. bit_in block_kind b.bits k };
 
-    ghost wide = { Prim.search rules };
+    ghost wide = { lit< tt };
 
     ghost blank = { λ k. no_ones block_placed k };
 

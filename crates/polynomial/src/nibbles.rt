@@ -3,7 +3,7 @@ ghost use Rattle.field.specs.Kinds.{nibble_kind};
 ghost use Rattle.polynomial.specs.Bits.{bit_in};
 ghost use Rattle.field.specs.Instances.{nibble_even};
 ghost use Rattle.polynomial.specs.Coefficients.{no_ones, nibble_placed};
-ghost use Rattle.std.proofs.Common.{rules};
+ghost use Rattle.std.proofs.Common.{lit<};
 
 use crate::binary::Binary;
 use field::Nibble;
@@ -13,7 +13,7 @@ impl Binary for Nibble {
 
     ghost bits = { λ b k. bit_in nibble_kind b.bits k };
 
-    ghost wide = { Prim.search rules };
+    ghost wide = { lit< tt };
 
     ghost blank = { λ k. no_ones nibble_placed k };
 

@@ -1,6 +1,7 @@
 use Rattle.std.proofs.Common.{arith, lit≤}
 use Rattle.field.specs.Instances.{block_held}
-use Rattle.polynomial.specs.Coefficients.{flips, block_placed}
+use Rattle.polynomial.specs.Coefficients.{block_placed}
+use Rattle.polynomial.proofs.Coefficients.{flips}
 use Rattle.polynomial.proofs.blocks.BlockBinary.flip.Goals as goal
 
 pub returns-then-k-lt128 : goal.returns-then-k-lt128

@@ -2,7 +2,8 @@ use Rattle.std.proofs.Common.{◌-◌, ◌/◌, ◌^◌, arith}
 use lib.Bits.{bit_and, mask_lt}
 use lib.Count.{ones-le}
 use Rattle.field.specs.Instances.{block_held}
-use Rattle.polynomial.specs.Coefficients.{ones_parts, weighed, block_placed}
+use Rattle.polynomial.specs.Coefficients.{block_placed}
+use Rattle.polynomial.proofs.Coefficients.{ones_parts, weighed}
 use Rattle.polynomial.proofs.blocks.BlockBinary.weight.Goals as goal
 
 pub overflow_add-result : goal.overflow_add-result

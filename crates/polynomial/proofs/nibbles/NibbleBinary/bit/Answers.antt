@@ -1,6 +1,7 @@
 use Rattle.std.proofs.Common.{arith}
 use Rattle.field.specs.Instances.{nibble_held}
-use Rattle.polynomial.specs.Coefficients.{tested, nibble_placed}
+use Rattle.polynomial.specs.Coefficients.{nibble_placed}
+use Rattle.polynomial.proofs.Coefficients.{tested}
 use Rattle.polynomial.proofs.nibbles.NibbleBinary.bit.Goals as goal
 
 pub returns-then-k-lt4 : goal.returns-then-k-lt4

@@ -1,6 +1,7 @@
 use Rattle.std.proofs.Common.{arith, lit≤}
 use Rattle.field.specs.Instances.{nibble_held}
-use Rattle.polynomial.specs.Coefficients.{flips, nibble_placed}
+use Rattle.polynomial.specs.Coefficients.{nibble_placed}
+use Rattle.polynomial.proofs.Coefficients.{flips}
 use Rattle.polynomial.proofs.nibbles.NibbleBinary.flip.Goals as goal
 
 pub returns-then-k-lt4 : goal.returns-then-k-lt4

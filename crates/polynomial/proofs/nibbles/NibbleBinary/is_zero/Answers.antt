@@ -1,6 +1,6 @@
 use Rattle.std.proofs.Common.{arith}
 use Rattle.field.specs.Instances.{nibble_held}
-use Rattle.polynomial.specs.Coefficients.{zero_tested}
+use Rattle.polynomial.proofs.Coefficients.{zero_tested}
 use Rattle.polynomial.proofs.nibbles.NibbleBinary.is_zero.Goals as goal
 
 pub returns : goal.returns

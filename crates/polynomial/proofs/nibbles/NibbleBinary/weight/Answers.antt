@@ -1,7 +1,8 @@
 use Rattle.std.proofs.Common.{ap, arith}
 use lib.Count.{ones}
 use Rattle.field.specs.Instances.{nibble_held}
-use Rattle.polynomial.specs.Coefficients.{weighed, nibble_placed}
+use Rattle.polynomial.specs.Coefficients.{nibble_placed}
+use Rattle.polynomial.proofs.Coefficients.{weighed}
 use Rattle.polynomial.proofs.nibbles.NibbleBinary.weight.Goals as goal
 
 pub returns : goal.returns
