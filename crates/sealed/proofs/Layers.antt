@@ -1,13 +1,13 @@
 -- Blocks laid into an output, one after another.
-use Rattle.std.proofs.Common.{◌≡◌, ℕ, zero, suc, ◌+◌, ◌-◌, ◌*◌, ◌/◌, ◌%◌, ◌<◌, ◌≤◌, min, leb, ◌⊎◌, List, [], ◌∷◌, ◌++◌, map, length, take, drop, replicate, Ok, sym, refl, ap, ◌∙◌, ap₂, inl, inr, append_assoc, append-nil, arith, length-append}
+use Rattle.std.proofs.Common.{◌≡◌, ℕ, suc, ◌+◌, ◌-◌, ◌*◌, ◌/◌, ◌%◌, ◌<◌, ◌≤◌, min, leb, List, [], ◌∷◌, ◌++◌, map, length, take, drop, replicate, Ok, sym, ap, ◌∙◌, ap₂, inl, inr, append_assoc, append-nil, arith, length-append}
 use native.Mathlib.Decide.{dec_le}
 use borrow.Rule.Slice.PartMut.{put_mid, same_len_mid}
-use Rattle.std.proofs.lemmas.List.{length-drop, length-take-le, length-replicate, length-map, drop-drop, take_at, drop_at, take_all, drop_all, nil_from_length}
+use Rattle.std.proofs.lemmas.List.{length-drop, length-take-le, length-replicate, length-map, drop-drop, take_all}
 use Rattle.std.proofs.lemmas.Slice.{take-put_mid}
 use Rattle.std.proofs.lemmas.Bool.{leb-true}
 use Rattle.message.proofs.Cutting.{Next}
 use Rattle.format.proofs.Pieces.{length_pieces, pieces_more}
-use Rattle.format.specs.Layout.{Content, blocks_for, front, check_of, block_bytes, content, contents, laid, cut_pieces, pieces}
+use Rattle.format.specs.Layout.{Content, blocks_for, front, check_of, block_bytes, content, contents, laid, pieces}
 use Rattle.field.specs.Digits.{digits}
 use Rattle.sealed.specs.Writing.{room_answer}
 use Rattle.sealed.proofs.Places.{passes}

@@ -3,7 +3,8 @@ use Rattle.std.proofs.Common.{◌≡◌, ℕ, ◌+◌, ◌≤◌, Bool, true, Li
 use Rattle.std.proofs.lemmas.Bool.{cond-true, le-leb}
 use Rattle.field.specs.Kinds.{block_ring}
 use Rattle.field.specs.declared.kinds.Block.{Block}
-use Rattle.message.specs.Blocks.{blocks, block_of_lengths, block_list}
+use Rattle.message.specs.Blocks.{blocks, block_of_lengths, block_of_counts, block_list}
+use Rattle.message.proofs.StandardHash.{lengths_counts}
 use Rattle.message.specs.Limits.{header_limit, body_limit}
 use Rattle.engine.specs.Rows.{Hashed}
 use Rattle.engine.specs.declared.engine.Engine.{Ghosts}
@@ -90,12 +91,12 @@ module _ {E : Type 0} (m : Ghosts E) where
       (second : BodyTook m (m.subkey_of e₀) (m.ready_of e₀) b.filling.engine t header body)
       (ends : ClosedBy m t closed.engine)
       (closes : Closes m (m.subkey_of e₀) (m.ready_of e₀) pad closed header body) where
-    lengths : block_of_lengths t.header t.filling.count ≡ block_of_lengths (length header) (length body)
-    lengths = ap₂ block_of_lengths second.holds.before second.holds.holds.count
+    lengths : block_of_counts t.header t.filling.count ≡ block_of_lengths header body
+    lengths = ap₂ block_of_counts second.holds.before second.holds.holds.count ∙ sym (lengths_counts header body)
 
     all : Hashed m e₁ (block_list header body) closed.engine
     all =
-        let last : List Block = block_of_lengths (length header) (length body) ∷ [] in
+        let last : List Block = block_of_lengths header body ∷ [] in
         let close = subst (λ (p : Block). Hashed m t.filling.engine (blocks (pending t.filling) ++ (p ∷ [])) closed.engine) lengths ends in
         let body-row = ended b.filling.engine t.filling closed.engine body last second.holds.holds.left second.hashed close in
         ended e₁ j.filling closed.engine header (blocks body ++ last) first.holds.left first.hashed

@@ -36,8 +36,8 @@ fn compare_tags(stored: u128, tag: Block, lengths: Lengths) -> Result<Lengths, R
 
 // Size, blocks, end and header limit come first; only then is anything hashed.
 pub fn check_file<E: Engine>(engine: E, pad: Block, file: &[u8]) -> Checked<E>
-    ensures answer { result.answer ≡ verdict (subkey_of engine) pad file.now }
-    ensures exact { Exact (subkey_of engine) pad file.now result.answer }
+    ensures answer { result.answer ≡ verdict (E.subkey_of engine) pad file.now }
+    ensures exact { Exact (E.subkey_of engine) pad file.now result.answer }
     ensures engine { EngineAfter E.Engine engine file.now result.answer result.engine }
 {
     let lengths = match first_pass(file) {

@@ -16,8 +16,8 @@ pub(crate) fn hash_parts<E: Engine>(engine: E, pad: Block, header: &[u8], body: 
     requires short { length header.now ≤ header_limit }
     requires few { length body.now ≤ body_limit }
     ensures ran { Ran E.Engine engine header.now body.now result.engine }
-    ensures hash { result.hash ≡ hash_of (subkey_of engine) header.now body.now }
-    ensures tag { result.tag ≡ tag_of (subkey_of engine) pad header.now body.now }
+    ensures hash { result.hash ≡ hash_of (E.subkey_of engine) header.now body.now }
+    ensures tag { result.tag ≡ tag_of (E.subkey_of engine) pad header.now body.now }
 {
     let mut job = HeaderJob::start(engine);
     let _ = job.feed(header);
@@ -64,7 +64,7 @@ pub(crate) fn hash_file<E: Engine>(engine: E, pad: Block, file: &[u8]) -> Closed
     requires size { is_size_good file.now ≡ true }
     requires short { length (header_in file.now) ≤ header_limit }
     ensures ran { Ran E.Engine engine (header_in file.now) (body_in file.now) result.engine }
-    ensures tag { result.tag ≡ tag_of (subkey_of engine) pad (header_in file.now) (body_in file.now) }
+    ensures tag { result.tag ≡ tag_of (E.subkey_of engine) pad (header_in file.now) (body_in file.now) }
 {
     let mut job = HeaderJob::start(engine);
     feed_header(&mut job, file);

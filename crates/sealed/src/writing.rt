@@ -38,9 +38,9 @@ pub fn write_file<E: Engine>(
     body: &[u8],
     output: &mut [u8],
 ) -> Written<E>
-    ensures answer { result.answer ≡ seal_answer (subkey_of engine) pad header.now body.now (length output.old) }
-    ensures output { MatchResult result.answer (λ _. output.new ≡ sealed (subkey_of engine) pad header.now body.now ++ drop (length (sealed (subkey_of engine) pad header.now body.now)) output.old) (λ _. output.new ≡ output.old) }
-    ensures reopens { OnOk result.answer (Reopens (subkey_of engine) pad header.now body.now) }
+    ensures answer { result.answer ≡ seal_answer (E.subkey_of engine) pad header.now body.now (length output.old) }
+    ensures output { MatchResult result.answer (λ _. output.new ≡ sealed (E.subkey_of engine) pad header.now body.now ++ drop (length (sealed (E.subkey_of engine) pad header.now body.now)) output.old) (λ _. output.new ≡ output.old) }
+    ensures reopens { OnOk result.answer (Reopens (E.subkey_of engine) pad header.now body.now) }
     ensures engine { MatchResult result.answer (λ _. Ran E.Engine engine header.now body.now result.engine) (λ _. result.engine ≡ engine) }
 {
     let blocks = match count_blocks(header.len(), body.len(), output.len()) {

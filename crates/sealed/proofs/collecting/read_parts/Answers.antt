@@ -21,7 +21,7 @@ returns-in_err-item c =
     let t : ℕ = c.next.new.self.place in
     let e : Refusal = c.in_err-item.field-0.0 in
     let inv = c.loop-parts.invariant in
-    let came = err_from_is_err_and c.from-residual.result c.from-residual.ensures.1 in
+    let came = err_from_is_err_and c.from_residual.result c.from_residual.ensures.1 in
     let within : 512 * k ≤ length file = subst (λ (xs : List ℕ). 512 * k ≤ length xs) inv.0 c.loop-parts.reader.within in
     let read = subst (λ (xs : List ℕ). Read xs k t (Err e)) inv.0 c.in_err-item.ensures.read in
     subst (λ (r : Result Parts ReadFault). Collected file r) (sym (came.1 ∙ ap failed came.2)) (refused file k inv.1 e within read.0)

@@ -4,8 +4,8 @@ use Rattle.std.proofs.lemmas.Bool.{cond-true, cond-false, eq-eqb, ne_eqb}
 use Rattle.sealed.specs.declared.prefix.Prefix.{Prefix}
 use Rattle.sealed.proofs.faults.block_fault.Goals as goal
 
-pub slice-bounds-block_check-end : goal.slice-bounds-block_check-end
-slice-bounds-block_check-end c = sym (length-take-le _ c.args.block.now (omega arith))
+pub slice_bounds-block_check-end : goal.slice_bounds-block_check-end
+slice_bounds-block_check-end c = sym (length-take-le _ c.args.block.now (omega arith))
 
 pub returns-then-stored_check-block_check : goal.returns-then-stored_check-block_check
 returns-then-stored_check-block_check c =

@@ -5,14 +5,14 @@ use Rattle.sealed.specs.declared.prefix.Prefix.{Prefix}
 use Rattle.sealed.proofs.Places.{formed}
 use Rattle.sealed.proofs.reading.parse.Goals as goal
 
-pub slice-bounds-record_of-end : goal.slice-bounds-record_of-end
-slice-bounds-record_of-end c =
+pub slice_bounds-record_of-end : goal.slice_bounds-record_of-end
+slice_bounds-record_of-end c =
     let left : List ℕ = c.args.left.now in
     let block : List ℕ = c.split_at.result.0.now in
     let good = formed (take 512 left) c.requires.good in
     let used : c.read_prefix.result.0.used ≡ used_in (take 512 left) = ap (λ (p : Prefix). p.used) c.read_prefix.ensures.bytes ∙ ap used_in c.split_at.ensures.front in
     let room : length c.read_prefix.result.1.now ≡ length block - 6 = ap length c.read_prefix.ensures.rest ∙ length-drop 6 block in
-    sym (length-take-le c.read_prefix.result.0.used c.read_prefix.result.1.now (omega (arith, used, room, good.used, c.split_at.ensures.front-len)))
+    sym (length-take-le c.read_prefix.result.0.used c.read_prefix.result.1.now (omega (arith, used, room, good.used, c.split_at.ensures.front_len)))
 
 pub record_of-requires : goal.record_of-requires
 record_of-requires c =

@@ -13,8 +13,8 @@ module _ (file : List ℕ) (k : ℕ) (good : true ≡ is_size_good file) (some :
   slice_size : length (take 512 (take (length file - 512 * k) (drop (512 * k) file))) ≡ 512
   slice_size = ap (λ (xs : List ℕ). length (take 512 xs)) (take_rest file (512 * k)) ∙ block_size file k whole
 
-pub slice-bounds-block_fault-end : goal.slice-bounds-block_fault-end
-slice-bounds-block_fault-end c = sym (slice_size c.args.self.now.file.now c.args.self.now.place c.if-not-size_good.ensures c.if-left-eq0.false)
+pub slice_bounds-block_fault-end : goal.slice_bounds-block_fault-end
+slice_bounds-block_fault-end c = sym (slice_size c.args.self.now.file.now c.args.self.now.place c.if-not-size_good.ensures c.if-left-eq0.false)
 
 pub block_fault-requires : goal.block_fault-requires
 block_fault-requires c = slice_size c.args.self.now.file.now c.args.self.now.place c.if-not-size_good.ensures c.if-left-eq0.false
