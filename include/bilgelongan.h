@@ -1,8 +1,8 @@
 /* Tags of a sonde's readings, for a data logger in C.
  *
- * Link target/staticlib/liblogger.a, which `rt staticlib logger` makes. It uses memcpy and memset and nothing else: no
- * allocation, no files, no state of its own. Calls may run at the same time from several threads, as long as none of them
- * writes memory that another one uses.
+ * Link crates/logger_c/out/liblogger_c.a, which `rt lib` makes in crates/logger_c. It uses memcpy and memset and nothing
+ * else: no allocation, no files, no state of its own. Calls may run at the same time from several threads, as long as
+ * none of them writes memory that another one uses.
  *
  * Numbers for 16 bytes. A subkey, a pad or a polynomial of 16 bytes is handed over as two numbers, each with its first
  * byte highest: the bytes 00 01 02 .. 0f are 0x0001020304050607 and 0x08090a0b0c0d0e0f.

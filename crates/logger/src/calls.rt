@@ -11,8 +11,7 @@ use field::{Block, Element};
 use tag::check_tag;
 
 // Writes hash and tag to the first 32 bytes of the output.
-#[unsafe(no_mangle)]
-pub extern "C" fn sonde_tag(
+pub fn sonde_tag(
     subkey_high: u64,
     subkey_low: u64,
     pad_high: u64,
@@ -30,8 +29,7 @@ pub extern "C" fn sonde_tag(
 }
 
 // Compares a given tag, of 4 to 16 bytes, with the beginning of the message's tag.
-#[unsafe(no_mangle)]
-pub extern "C" fn sonde_check_tag(
+pub fn sonde_check_tag(
     subkey_high: u64,
     subkey_low: u64,
     pad_high: u64,
@@ -48,8 +46,7 @@ pub extern "C" fn sonde_check_tag(
 }
 
 // The number of ones of a polynomial that annihilates the subkey.
-#[unsafe(no_mangle)]
-pub extern "C" fn sonde_try_polynomial(
+pub fn sonde_try_polynomial(
     subkey_high: u64,
     subkey_low: u64,
     proposal_high: u64,

@@ -1,4 +1,4 @@
-use Rattle.std.proofs.Common.{◌≡◌, ℕ, ◌+◌, List, drop, sym, ap, ◌∙◌}
+use Rattle.std.proofs.Common.{ℕ, ◌+◌, List, drop, sym, ap, ◌∙◌}
 use lib.Bits.{bit_or}
 use Rattle.std.proofs.lemmas.List.{drop_more, drop_all}
 use Rattle.field.specs.declared.kinds.Block.{Block}
