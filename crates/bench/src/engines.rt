@@ -7,7 +7,8 @@ use std::time::Instant;
 
 const LENGTHS: [u32; 9] = [128, 192, 256, 384, 512, 768, 1024, 1280, 1536];
 
-fn key() -> Block {
+// The subkey of the first published case.
+pub(crate) fn key() -> Block {
     Block::new(0x66e9_4bd4_ef8a_2c3b_884c_fa59_ca34_2b2e)
 }
 
@@ -40,7 +41,7 @@ fn measure<E: Engine>(
 }
 
 // A polynomial that the key annihilates.
-fn accepted() -> Option<Accepted> {
+pub(crate) fn accepted() -> Option<Accepted> {
     let mut scratch = [Block::zero(); 128];
     let Ok(made) = make_polynomial(key(), &mut scratch) else {
         return None;

@@ -2,22 +2,22 @@
 #![tactic(auto)]
 
 mod engines;
+mod files;
+mod jobs;
 
 use anyhow::anyhow;
-use engines::engines;
+use engines::{engines, key};
 use field::{Block, Element};
+use files::files;
+use jobs::jobs;
 use polynomial::{make_polynomial, try_polynomial};
 use std::env;
 use std::time::Instant;
 
+// The words `jobs` and `files` print tables too (docs/SPEED.md).
 const USAGE: &str = "usage: bench product|trial|maker|engines COUNT
 prints nanoseconds a block product, a trial or a making, over COUNT of them,
 or a table of the engines' times a block, each row over COUNT hashes";
-
-// The subkey of the first published case.
-fn key() -> Block {
-    Block::new(0x66e9_4bd4_ef8a_2c3b_884c_fa59_ca34_2b2e)
-}
 
 // A chain of products, each from the one before, so that none can be left out.
 fn chain(start: Block, key: Block, count: u32) -> Block {
@@ -90,6 +90,8 @@ fn run(rt: &HostRuntime) -> anyhow::Result<()> {
         "trial" => trial(rt, count),
         "maker" => maker(rt, count),
         "engines" => engines(rt, count),
+        "jobs" => jobs(rt, count),
+        "files" => files(rt, count),
         _ => Err(anyhow!("no such loop")),
     }
 }

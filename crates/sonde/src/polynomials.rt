@@ -2,7 +2,15 @@
 use crate::stop::{Argument, Stop};
 use crate::words::block_word;
 use field::{Block, Element};
-use polynomial::{Binary, make_polynomial, try_polynomial};
+use polynomial::{Accepted, Binary, make_polynomial, try_polynomial};
+
+// The maker's polynomial, tried.
+pub(crate) fn accepted(subkey: Block) -> Result<Accepted, Stop> {
+    let mut scratch = [Block::zero(); 128];
+    let made = make_polynomial(subkey, &mut scratch)?;
+    let trial = try_polynomial(subkey, made, &mut scratch)?;
+    Ok(trial.polynomial)
+}
 
 pub(crate) fn print_maker(rt: &HostRuntime, words: &[String]) -> Result<(), Stop> {
     let [subkey] = words else {

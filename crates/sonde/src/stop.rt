@@ -12,9 +12,22 @@ pub(crate) enum Argument {
     Proposal,
     Header,
     Body,
+    Script,
+    Tag,
+    Number,
+    File,
+    Out,
 }
 
 impl Argument {
+    // How many digits a hexadecimal word has in this place.
+    fn digits(self) -> &'static str {
+        match self {
+            Argument::Tag => "an even count is wanted",
+            _ => "32 are wanted",
+        }
+    }
+
     fn name(self) -> &'static str {
         match self {
             Argument::Subkey => "SUBKEY",
@@ -22,6 +35,51 @@ impl Argument {
             Argument::Proposal => "PROPOSAL",
             Argument::Header => "HEADER",
             Argument::Body => "BODY",
+            Argument::Script => "SCRIPT",
+            Argument::Tag => "TAG",
+            Argument::Number => "N",
+            Argument::File => "FILE",
+            Argument::Out => "OUT",
+        }
+    }
+}
+
+// What is wrong with a line of a script.
+#[derive(Drop)]
+pub(crate) enum LineFault {
+    NoSuchCall,
+    WordTooMany,
+    BadHex(HexFault),
+    NoFile(io::Error),
+    HeaderAfterTurn,
+    BodyBeforeTurn,
+    SecondTurn,
+    CloseBeforeTurn,
+    AfterClose,
+    NoClose,
+    NoMemory,
+}
+
+// A comparison that the list of a flight makes.
+#[derive(Clone, Copy)]
+pub(crate) enum Check {
+    Job,
+    Finder,
+    Cut,
+    CutPastEnd,
+    Switch,
+    ReadBack,
+}
+
+impl Check {
+    fn text(self) -> &'static str {
+        match self {
+            Check::Job => "the job's hash is not the one-shot's",
+            Check::Finder => "the finder's blocks are not those that are hashed",
+            Check::Cut => "a cut changes the tag",
+            Check::CutPastEnd => "a cut stands past the end of the body",
+            Check::Switch => "a switch changes the tag",
+            Check::ReadBack => "what is read back is not what was sealed",
         }
     }
 }
@@ -35,10 +93,19 @@ pub(crate) enum Stop {
         argument: Argument,
         fault: HexFault,
     },
-    // The file that this argument names could not be read.
+    // This argument should be a number, and is not.
+    BadNumber {
+        argument: Argument,
+    },
+    // The file that this argument names could not be read or written.
     NoFile {
         argument: Argument,
         error: io::Error,
+    },
+    // This line of the script cannot be run.
+    BadLine {
+        line: usize,
+        fault: LineFault,
     },
     // The command takes another count of words.
     WrongCount {
@@ -46,6 +113,9 @@ pub(crate) enum Stop {
         given: usize,
     },
     NoCommand,
+    NoOption,
+    // Two ways that must agree do not.
+    Differs(Check),
     NoMemory,
     // Printing failed.
     Failed(io::Error),
@@ -70,11 +140,9 @@ impl From<Refusal> for Stop {
 }
 
 // What is wrong with a hexadecimal word, in one line.
-fn tell_hex(rt: &HostRuntime, name: &str, fault: HexFault) -> io::Result<()> {
+fn tell_hex(rt: &HostRuntime, name: &str, wanted: &str, fault: HexFault) -> io::Result<()> {
     match fault {
-        HexFault::WrongLength { digits } => eprintln!(rt;
-            "{name}: {digits} digits, and 32 are wanted"
-        ),
+        HexFault::WrongLength { digits } => eprintln!(rt; "{name}: {digits} digits, and {wanted}"),
         HexFault::NotADigit { at } => eprintln!(rt;
             "{name}: the character at place {at}, from 0, is no hexadecimal digit"
         ),
@@ -82,24 +150,63 @@ fn tell_hex(rt: &HostRuntime, name: &str, fault: HexFault) -> io::Result<()> {
     }
 }
 
+// A refusal's number and text, and the block that it names, if any.
+fn tell_refusal(rt: &HostRuntime, refusal: Refusal) -> io::Result<()> {
+    let number = refusal.number();
+    let text = refusal.text();
+    match (refusal, refusal.place()) {
+        (Refusal::NoEnd { blocks }, _) => {
+            println!(rt; "refused {number} after {blocks} blocks: {text}")
+        }
+        (_, Some(place)) => println!(rt; "refused {number} at block {place}: {text}"),
+        (_, None) => println!(rt; "refused {number}: {text}"),
+    }
+}
+
+// What is wrong with a line of a script, in one line.
+fn tell_line(rt: &HostRuntime, line: usize, fault: &LineFault) -> io::Result<()> {
+    eprint!(rt; "line {line}: ")?;
+    match fault {
+        LineFault::NoSuchCall => eprintln!(rt; "no such call"),
+        LineFault::WordTooMany => eprintln!(rt; "this call takes no words"),
+        LineFault::BadHex(fault) => tell_hex(rt, "piece", "an even count is wanted", *fault),
+        LineFault::NoFile(error) => eprintln!(rt; "file: {error}"),
+        LineFault::HeaderAfterTurn => eprintln!(rt; "header after the turn"),
+        LineFault::BodyBeforeTurn => eprintln!(rt; "body before the turn"),
+        LineFault::SecondTurn => eprintln!(rt; "a second turn"),
+        LineFault::CloseBeforeTurn => eprintln!(rt; "close before the turn"),
+        LineFault::AfterClose => eprintln!(rt; "a call after the close"),
+        LineFault::NoClose => eprintln!(rt; "the script ends before the close"),
+        LineFault::NoMemory => eprintln!(rt; "no memory"),
+    }
+}
+
 impl Stop {
     // One line: a refusal is an answer and goes to standard output, the rest to standard error.
     pub(crate) fn tell(&self, rt: &HostRuntime) -> io::Result<()> {
         match self {
-            Stop::Refused(refusal) => {
-                let number = refusal.number();
-                let text = refusal.text();
-                println!(rt; "refused {number}: {text}")
+            Stop::Refused(refusal) => { tell_refusal(rt, *refusal) }
+            Stop::BadHex { argument, fault } => tell_hex(
+                rt,
+                argument.name(),
+                argument.digits(),
+                *fault,
+            ),
+            Stop::BadNumber { argument } => {
+                let name = argument.name();
+                eprintln!(rt; "{name}: no whole number")
             }
-            Stop::BadHex { argument, fault } => tell_hex(rt, argument.name(), *fault),
             Stop::NoFile { argument, error } => {
                 let name = argument.name();
                 eprintln!(rt; "{name}: {error}")
             }
+            Stop::BadLine { line, fault } => tell_line(rt, *line, fault),
             Stop::WrongCount { wanted, given } => eprintln!(rt;
                 "{wanted} words are wanted after the command, and {given} were given"
             ),
             Stop::NoCommand => eprintln!(rt; "no such command; sonde alone prints how to use it"),
+            Stop::NoOption => eprintln!(rt; "no such option, or one without its value"),
+            Stop::Differs(check) => println!(rt; "{}", check.text()),
             Stop::NoMemory => eprintln!(rt; "no memory"),
             Stop::Failed(error) => eprintln!(rt; "{error}"),
         }

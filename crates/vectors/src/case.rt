@@ -1,5 +1,6 @@
 // One published case, a line of seven words: number, subkey, pad, header, body, hash, tag.
 use crate::engines::print_engines;
+use crate::jobs::print_jobs;
 use crate::trials::print_made;
 use hexadecimal::{HexFault, parse_block, parse_bytes};
 use message::hash_and_tag;
@@ -51,7 +52,8 @@ fn read_part(heap: Global, word: &str) -> Result<Vec<u8>, Fault> {
 }
 
 // Prints what a case gives and a polynomial for its subkey, and answers whether hash and tag are as published.
-pub(crate) fn compare(rt: &HostRuntime, line: &str) -> Result<bool, Fault> {
+// By jobs too, where more is asked for.
+pub(crate) fn compare(rt: &HostRuntime, line: &str, more: bool) -> Result<bool, Fault> {
     let words: Vec<&str> = line.split_whitespace().collect(rt.alloc())?;
     let [number, subkey, pad, header, body, hash, tag] = words.as_slice() else {
         return Err(Fault::WrongCount);
@@ -59,13 +61,10 @@ pub(crate) fn compare(rt: &HostRuntime, line: &str) -> Result<bool, Fault> {
     let subkey = parse_block(subkey)?;
     let header = read_part(rt.alloc(), header)?;
     let body = read_part(rt.alloc(), body)?;
-    let digest = hash_and_tag(
-        subkey,
-        parse_block(pad)?,
-        header.as_slice(),
-        body.as_slice(),
-    )?;
-    let same = digest.hash == parse_block(hash)? && digest.tag == parse_block(tag)?;
+    let pad = parse_block(pad)?;
+    let tag = parse_block(tag)?;
+    let digest = hash_and_tag(subkey, pad, header.as_slice(), body.as_slice())?;
+    let same = digest.hash == parse_block(hash)? && digest.tag == tag;
     let verdict = if same { "as published" } else { "DIFFERS" };
     println!(rt;
         "case {number}: hash {:032x} tag {:032x} {verdict}",
@@ -74,5 +73,8 @@ pub(crate) fn compare(rt: &HostRuntime, line: &str) -> Result<bool, Fault> {
     )?;
     print_made(rt, subkey)?;
     print_engines(rt, subkey, header.as_slice(), body.as_slice(), digest.hash)?;
+    if more {
+        print_jobs(rt, subkey, pad, header.as_slice(), body.as_slice(), tag)?;
+    }
     Ok(same)
 }

@@ -6,7 +6,7 @@ use polynomial::{make_polynomial, try_polynomial};
 use std::alloc::AllocError;
 
 // The hash of some blocks, with a switch asked for after every `every` of them.
-fn hash<E: Engine>(engine: &mut E, blocks: &[Block], every: usize) -> Block {
+pub(crate) fn hash<E: Engine>(engine: &mut E, blocks: &[Block], every: usize) -> Block {
     engine.resume(Block::zero());
     let mut left = every;
     for block in blocks {
@@ -26,7 +26,7 @@ fn push_block(blocks: &mut Vec<Block>, block: Block) -> Result<(), AllocError> {
 }
 
 // The blocks of one part, the last filled with zeros.
-fn push_part(blocks: &mut Vec<Block>, part: &[u8]) -> Result<(), AllocError> {
+pub(crate) fn push_part(blocks: &mut Vec<Block>, part: &[u8]) -> Result<(), AllocError> {
     for piece in part.chunks(16) {
         let mut bytes = [0u8; 16];
         for (at, byte) in piece.iter().enumerate() {

@@ -3,16 +3,20 @@
 
 mod case;
 mod engines;
+mod files;
+mod jobs;
 mod trials;
 
 use case::{Fault, compare};
 use engines::print_long;
 use field::{Block, Element};
+use files::print_files;
 use readings::{Readings, take_readings};
+use std::env;
 use trials::print_trials;
 
 // Every line of the input that is no comment is a case; answers how many there are and how many agree.
-fn compare_all(rt: &HostRuntime) -> Result<(u32, u32), Fault> {
+fn compare_all(rt: &HostRuntime, more: bool) -> Result<(u32, u32), Fault> {
     let mut cases = 0u32;
     let mut agreeing = 0u32;
     for line in rt.lines(rt.alloc()) {
@@ -21,7 +25,7 @@ fn compare_all(rt: &HostRuntime) -> Result<(u32, u32), Fault> {
             continue;
         }
         cases = cases.saturating_add(1);
-        if compare(rt, line.as_str())? {
+        if compare(rt, line.as_str(), more)? {
             agreeing = agreeing.saturating_add(1);
         }
     }
@@ -46,11 +50,24 @@ fn print_readings(rt: &HostRuntime, r: &Readings) -> Result<(), Fault> {
     Ok(())
 }
 
+// The word `more` asks for jobs and sealed files besides.
+fn more_asked(rt: &HostRuntime) -> Result<bool, Fault> {
+    let words: Vec<String> = env::args(rt)?.collect(rt.alloc())?;
+    match words.as_slice() {
+        [_name, word] => Ok(word.as_str() == "more"),
+        _ => Ok(false),
+    }
+}
+
 fn run(rt: &HostRuntime) -> Result<(), Fault> {
-    let (cases, agreeing) = compare_all(rt)?;
+    let more = more_asked(rt)?;
+    let (cases, agreeing) = compare_all(rt, more)?;
     println!(rt; "{agreeing} of {cases} cases as published")?;
     print_long(rt, Block::new(0x66e9_4bd4_ef8a_2c3b_884c_fa59_ca34_2b2e))?;
     print_trials(rt)?;
+    if more {
+        print_files(rt)?;
+    }
     if let Ok(readings) = take_readings(Block::one(), Block::new(0xff)) {
         print_readings(rt, &readings)?;
     }

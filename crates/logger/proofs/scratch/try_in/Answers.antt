@@ -4,7 +4,7 @@ use Rattle.std.proofs.lemmas.Bool.{cond-false}
 use Rattle.field.specs.declared.kinds.Block.{Block}
 use Rattle.polynomial.specs.Bits.{ones_below}
 use Rattle.polynomial.specs.Blocks.{coefficients_of}
-use Rattle.polynomial.specs.Coefficients.{ones_at_most}
+use Rattle.polynomial.proofs.Coefficients.{ones_at_most}
 use Rattle.logger.proofs.scratch.try_in.Goals as goal
 
 small : (n : ℕ) → n ≤ 128 → n < 2 ^ 31

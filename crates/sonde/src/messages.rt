@@ -1,34 +1,10 @@
-// The commands `tag`, `check-tag` and `find`: two files as one message.
+// The commands `check-tag` and `find`: two files as one message.
 use crate::stop::{Argument, Stop};
 use crate::words::{block_word, bytes_word, file_word, number_word};
 use engine::Step;
 use message::{Part, find_block};
 use std::io;
-use tag::{check_tag, tag_message};
-
-pub(crate) fn tag_files(rt: &HostRuntime, words: &[String]) -> Result<(), Stop> {
-    let [subkey, pad, header, body] = words else {
-        return Err(Stop::WrongCount {
-            wanted: 4,
-            given: words.len(),
-        });
-    };
-    let mut engine = Step::new(block_word(Argument::Subkey, subkey.as_str())?);
-    let pad = block_word(Argument::Pad, pad.as_str())?;
-    let header_bytes = file_word(rt, Argument::Header, header.as_str())?;
-    let body_bytes = file_word(rt, Argument::Body, body.as_str())?;
-    let tagged = tag_message(
-        &mut engine,
-        pad,
-        header_bytes.as_slice(),
-        body_bytes.as_slice(),
-    )?;
-    println!(rt; "header {header}: {} bytes", header_bytes.len())?;
-    println!(rt; "body {body}: {} bytes", body_bytes.len())?;
-    println!(rt; "hash {:032x}", tagged.hash.bits())?;
-    println!(rt; "tag {:032x}", tagged.tag.bits())?;
-    Ok(())
-}
+use tag::check_tag;
 
 pub(crate) fn check_files(rt: &HostRuntime, words: &[String]) -> Result<(), Stop> {
     let [subkey, pad, header, body, tag] = words else {

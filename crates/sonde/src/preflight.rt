@@ -7,7 +7,7 @@ use crate::words::file_word;
 use engine::{Division, Engine, Pair};
 use field::{Block, Element};
 use job::{BodyJob, Closed, HeaderJob};
-use message::{Part, block_of, find_block, length_block};
+use message::{Part, block_of, block_of_byte_counts, find_block};
 use polynomial::{Accepted, Binary, try_polynomial};
 use sealed::{ReadFault, check_file, read_parts};
 use tag::{Tagged, tag_message};
@@ -74,7 +74,7 @@ fn found_hash(subkey: Block, header: &[u8], body: &[u8]) -> Block {
             engine.absorb(block_of(found.bytes));
         }
     }
-    engine.absorb(length_block(header.len() as u64, body.len() as u64));
+    engine.absorb(block_of_byte_counts(header.len() as u64, body.len() as u64));
     engine.value()
 }
 

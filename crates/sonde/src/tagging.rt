@@ -1,16 +1,7 @@
 // The command `tag`: the hash and tag of two files.
 use crate::stop::{Argument, Stop};
-use crate::words::block_word;
+use crate::words::{block_word, file_word};
 use message::hash_and_tag;
-use std::fs;
-
-// A file's bytes.
-fn file_word(rt: &HostRuntime, argument: Argument, path: &str) -> Result<Vec<u8>, Stop> {
-    match fs::read(rt, path) {
-        Ok(bytes) => Ok(bytes),
-        Err(error) => Err(Stop::NoFile { argument, error }),
-    }
-}
 
 pub(crate) fn tag_files(rt: &HostRuntime, words: &[String]) -> Result<(), Stop> {
     let [subkey, pad, header, body] = words else {
