@@ -40,7 +40,7 @@ const USAGE: &str = "usage:
   sonde trial SUBKEY PROPOSAL        whether a proposed polynomial does
 A script has lines `header PIECE..`, `switch`, `turn`, `body PIECE..` and `close`; a piece is hexadecimal
 digits, or @ and the name of a file; a line that begins with # is a comment.
-Several commands may follow each other, with the word `then` between them.
+`sonde each COMMAND.. then COMMAND..` runs commands one after another, the word `then` between them.
 TAG is 8 to 32 hexadecimal digits, SCRIPT the name of a file;
 SUBKEY, PAD and PROPOSAL are 32 hexadecimal digits each, HEADER and BODY names of files";
 
@@ -77,10 +77,13 @@ fn words_before_then(words: &[String]) -> usize {
 }
 
 // Commands with `then` between them, one after another; the first that stops ends them all.
-fn run_all(rt: &HostRuntime, words: &[String]) -> Result<(), Stop> {
+fn run_each(rt: &HostRuntime, words: &[String]) -> Result<(), Stop> {
     let mut left = words;
     for _ in 0..words.len().max(1) {
         let (now, after) = left.split_at(words_before_then(left).min(left.len()));
+        if now.is_empty() {
+            return Err(Stop::NoCommand);
+        }
         run(rt, now)?;
         let [_then, more @ ..] = after else {
             return Ok(());
@@ -94,8 +97,9 @@ fn run_all(rt: &HostRuntime, words: &[String]) -> Result<(), Stop> {
 fn start(rt: &HostRuntime) -> Result<(), Stop> {
     let words: Vec<String> = env::args(rt)?.collect(rt.alloc())?;
     match words.as_slice() {
-        [_name, rest @ ..] => run_all(rt, rest),
-        [] => Err(Stop::NoCommand),
+        [_name, each, rest @ ..] if each.as_str() == "each" => run_each(rt, rest),
+        [_name, rest @ ..] => run(rt, rest),
+        none => run(rt, none),
     }
 }
 

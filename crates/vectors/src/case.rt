@@ -61,10 +61,13 @@ pub(crate) fn compare(rt: &HostRuntime, line: &str, more: bool) -> Result<bool, 
     let subkey = parse_block(subkey)?;
     let header = read_part(rt.alloc(), header)?;
     let body = read_part(rt.alloc(), body)?;
-    let pad = parse_block(pad)?;
-    let tag = parse_block(tag)?;
-    let digest = hash_and_tag(subkey, pad, header.as_slice(), body.as_slice())?;
-    let same = digest.hash == parse_block(hash)? && digest.tag == tag;
+    let digest = hash_and_tag(
+        subkey,
+        parse_block(pad)?,
+        header.as_slice(),
+        body.as_slice(),
+    )?;
+    let same = digest.hash == parse_block(hash)? && digest.tag == parse_block(tag)?;
     let verdict = if same { "as published" } else { "DIFFERS" };
     println!(rt;
         "case {number}: hash {:032x} tag {:032x} {verdict}",
@@ -74,6 +77,8 @@ pub(crate) fn compare(rt: &HostRuntime, line: &str, more: bool) -> Result<bool, 
     print_made(rt, subkey)?;
     print_engines(rt, subkey, header.as_slice(), body.as_slice(), digest.hash)?;
     if more {
+        let pad = parse_block(pad)?;
+        let tag = parse_block(tag)?;
         print_jobs(rt, subkey, pad, header.as_slice(), body.as_slice(), tag)?;
     }
     Ok(same)
