@@ -1,12 +1,15 @@
 // Blocks: in and out, sum and product.
-ghost use Rattle.std.specs.Prelude.{◌≡◌, ◌+◌, ◌*◌, ◌^◌};
+ghost use Rattle.std.specs.Prelude.{◌≡◌, ◌+◌, ◌*◌, ◌^◌, refl};
 ghost use Rattle.field.specs.Bytes.{block_of, bytes_of};
-ghost use Rattle.field.specs.Kinds.{block, block_ring};
-ghost use Rattle.field.specs.Instances.{block_ring_laws};
+ghost use Rattle.field.specs.Kinds.{block, block_kind, block_ring};
+ghost use Rattle.field.specs.Instances.{block_lawful, block_ring_laws};
 
-use crate::binary::block_product;
+use crate::binary::{Polynomial, masked, product};
 use crate::element::Element;
 use crate::kinds::Block;
+
+// 1 + x + x^2 + x^7, which stands for x^128.
+const REDUCTION: u128 = 0xe1 << 120;
 
 impl Block {
     // The coefficient of x^k is bit 127 - k.
@@ -34,9 +37,7 @@ impl Block {
         ensures value { result ≡ block_of bytes }
         ensures back { bytes_of result ≡ bytes }
     {
-        Block {
-            bits: u128::from_be_bytes(bytes),
-        }
+        Block::new(u128::from_be_bytes(bytes))
     }
 
     pub fn to_bytes(self) -> [u8; 16]
@@ -59,22 +60,38 @@ impl Element for Block {
     ghost ring = { block_ring_laws };
 
     fn zero() -> Block {
-        Block { bits: 0 }
+        Block::new(0)
     }
 
     fn one() -> Block {
-        Block { bits: 1 << 127 }
+        Block::new(1 << 127)
     }
 
     fn plus(self, other: Block) -> Block {
-        Block {
-            bits: self.bits ^ other.bits,
-        }
+        Block::new(self.bits ^ other.bits)
     }
 
     fn times(self, other: Block) -> Block {
-        Block {
-            bits: block_product(self.bits, other.bits),
-        }
+        Block::new(product::<Block>(self.bits, other.bits))
+    }
+}
+
+impl Polynomial for Block {
+    ghost kind = { block_kind };
+
+    ghost WIDTH = { 128 };
+
+    const WIDTH: u32 = 128;
+
+    ghost width = { refl };
+
+    ghost lawful = { block_lawful };
+
+    fn coefficient(number: u128, k: u32) -> u128 {
+        (number >> (127 - k)) & 1
+    }
+
+    fn raised(number: u128) -> u128 {
+        (number >> 1) ^ masked(number & 1, REDUCTION)
     }
 }

@@ -6,13 +6,15 @@ ghost use Rattle.field.specs.Instances.{word_ring_laws};
 use crate::element::Element;
 use crate::kinds::Word;
 
+const MODULUS: u32 = 0x7fff_ffff;
+
 impl Word {
     // A number above 2^31 - 2 enters by its remainder.
     pub fn new(value: u32) -> Word
         ensures { result ≡ word value }
     {
         Word {
-            value: value % 0x7fff_ffff,
+            value: value % MODULUS,
         }
     }
 
@@ -35,23 +37,19 @@ impl Element for Word {
     ghost ring = { word_ring_laws };
 
     fn zero() -> Word {
-        Word { value: 0 }
+        Word::new(0)
     }
 
     fn one() -> Word {
-        Word { value: 1 }
+        Word::new(1)
     }
 
     fn plus(self, other: Word) -> Word {
-        Word {
-            value: (self.value + other.value) % 0x7fff_ffff,
-        }
+        Word::new(self.value + other.value)
     }
 
     fn times(self, other: Word) -> Word {
         let wide = self.value as u64 * other.value as u64;
-        Word {
-            value: (wide % 0x7fff_ffff) as u32,
-        }
+        Word::new((wide % MODULUS as u64) as u32)
     }
 }
