@@ -1,17 +1,20 @@
 // Blocks: in and out, sum and product.
-ghost use Rattle.std.specs.Prelude.{◌≡◌, ◌+◌, ◌*◌, ◌^◌, refl};
+ghost use Rattle.std.specs.Prelude.{◌≡◌, ◌+◌, ◌*◌, ◌^◌, refl, Some};
 ghost use Rattle.field.specs.Bytes.{block_of, bytes_of};
+ghost use Rattle.field.specs.Texts.{block_text};
 ghost use Rattle.field.specs.Kinds.{block, block_kind, block_ring};
 ghost use Rattle.field.specs.Instances.{block_lawful, block_ring_laws};
 
 use crate::binary::{Polynomial, masked, product};
 use crate::element::Element;
 use crate::kinds::Block;
+use std::fmt;
 
 // 1 + x + x^2 + x^7, which stands for x^128.
 const REDUCTION: u128 = 0xe1 << 120;
 
 impl Block {
+    // Conversions have names and no From, since the names say which bit or byte comes first.
     // The coefficient of x^k is bit 127 - k.
     pub fn new(bits: u128) -> Block
         ensures { result ≡ block bits }
@@ -23,7 +26,7 @@ impl Block {
     pub fn from_halves(high: u64, low: u64) -> Block
         ensures { result ≡ block (high * 2 ^ 64 + low) }
     {
-        Block::new((high as u128) << 64 | low as u128)
+        Block::new(u128::from(high) << 64 | u128::from(low))
     }
 
     pub fn bits(self) -> u128
@@ -45,6 +48,17 @@ impl Block {
         ensures back { block_of result ≡ self }
     {
         u128::to_be_bytes(self.bits)
+    }
+}
+
+// 32 hexadecimal digits.
+impl fmt::Display for Block {
+    ghost output = { λ block. Some (block_text block) };
+
+    fn fmt<W: fmt::Write>(&self, f: &mut fmt::Formatter<W>) -> fmt::Result {
+        let high = (self.bits >> 64) as u64;
+        let low = (self.bits % (1 << 64)) as u64;
+        write!(f, "{high:016x}{low:016x}")
     }
 }
 

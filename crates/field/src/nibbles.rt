@@ -1,11 +1,13 @@
 // Nibbles: in and out, sum and product.
-ghost use Rattle.std.specs.Prelude.{◌≡◌, refl};
+ghost use Rattle.std.specs.Prelude.{◌≡◌, refl, Some};
 ghost use Rattle.field.specs.Kinds.{nibble, nibble_kind, nibble_ring};
+ghost use Rattle.field.specs.Texts.{nibble_text};
 ghost use Rattle.field.specs.Instances.{nibble_lawful, nibble_ring_laws};
 
 use crate::binary::{Polynomial, masked, product};
 use crate::element::Element;
 use crate::kinds::Nibble;
+use std::fmt;
 
 // x + 1, which stands for x^4.
 const REDUCTION: u128 = 0b0011;
@@ -22,6 +24,15 @@ impl Nibble {
         ensures { result ≡ self.bits }
     {
         self.bits
+    }
+}
+
+// The four bits, the highest first.
+impl fmt::Display for Nibble {
+    ghost output = { λ nibble. Some (nibble_text nibble) };
+
+    fn fmt<W: fmt::Write>(&self, f: &mut fmt::Formatter<W>) -> fmt::Result {
+        write!(f, "{:04b}", self.bits)
     }
 }
 
@@ -49,7 +60,7 @@ impl Element for Nibble {
     }
 
     fn times(self, other: Nibble) -> Nibble {
-        Nibble::new(product::<Nibble>(self.bits as u128, other.bits as u128) as u8)
+        Nibble::new(product::<Nibble>(self.bits.into(), other.bits.into()) as u8)
     }
 }
 

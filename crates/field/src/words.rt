@@ -1,10 +1,12 @@
 // Words: in and out, sum and product.
-ghost use Rattle.std.specs.Prelude.{◌≡◌};
+ghost use Rattle.std.specs.Prelude.{◌≡◌, Some};
 ghost use Rattle.field.specs.Kinds.{word, word_ring};
+ghost use Rattle.field.specs.Texts.{word_text};
 ghost use Rattle.field.specs.Instances.{word_ring_laws};
 
 use crate::element::Element;
 use crate::kinds::Word;
+use std::fmt;
 
 const MODULUS: u32 = 0x7fff_ffff;
 
@@ -22,6 +24,14 @@ impl Word {
         ensures { result ≡ self.value }
     {
         self.value
+    }
+}
+
+impl fmt::Display for Word {
+    ghost output = { λ word. Some (word_text word) };
+
+    fn fmt<W: fmt::Write>(&self, f: &mut fmt::Formatter<W>) -> fmt::Result {
+        write!(f, "{}", self.value)
     }
 }
 
@@ -49,7 +59,7 @@ impl Element for Word {
     }
 
     fn times(self, other: Word) -> Word {
-        let wide = self.value as u64 * other.value as u64;
-        Word::new((wide % MODULUS as u64) as u32)
+        let wide = u64::from(self.value) * u64::from(other.value);
+        Word::new((wide % u64::from(MODULUS)) as u32)
     }
 }

@@ -1,4 +1,4 @@
-use Rattle.std.proofs.Common.{◌≡◌, ℕ, ◌^◌, ◌<◌, sym, refl, ap, ◌∙◌, subst, arith}
+use Rattle.std.proofs.Common.{ℕ, ◌^◌, ◌<◌, sym, refl, ap, ◌∙◌, subst}
 use lib.Bits.{bit_xor}
 use Rattle.field.specs.Binary.{Kind, part, multiplied, shifted}
 use Rattle.field.specs.Products.{shifted_fits, multiplied_fits}
@@ -27,13 +27,8 @@ loop-k-preserved g c =
           one_more_power kind c.loop-k.k c.args.a c.args.b power _ c.loop-k.invariant.power_so_far c.raised-power.ensures;
     }
 
-pub returns : goal.returns
-returns g c =
+pub returns-clause-fits : goal.returns-clause-fits
+returns-clause-fits g c =
     let kind : Kind = g.P.Polynomial.kind in
-    let end : c.loop-k.k ≡ kind.width = omega (arith, g.met.P.Polynomial.width) in
-    let made = c.loop-k.invariant.sum_so_far ∙ ap (λ (m : ℕ). multiplied kind m c.args.a c.args.b) end in record {
-      value = made;
-      fits =
-          subst (λ (n : ℕ). n < 2 ^ kind.width) (sym made)
-          (multiplied_fits kind g.met.P.Polynomial.lawful kind.width c.args.a c.args.b c.requires);
-    }
+    subst (λ (n : ℕ). n < 2 ^ kind.width) (sym c.loop-k.invariant.sum_so_far)
+    (multiplied_fits kind g.met.P.Polynomial.lawful c.loop-k.k c.args.a c.args.b c.requires)
