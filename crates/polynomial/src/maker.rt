@@ -1,9 +1,10 @@
 // The maker: the product of t + H^(2^i) over all i, which H annihilates.
 ghost use Rattle.std.specs.Prelude.{◌≡◌, ℕ, ◌+◌, ◌<◌, ◌≤◌, cond, List, [], ◌∷◌, ◌++◌, length, IfOk, MatchOption};
-ghost use Rattle.polynomial.specs.Outcomes.{Made, scratch_after};
+ghost use Rattle.polynomial.specs.Outcomes.{AcceptedMade, Made, scratch_after};
 ghost use Rattle.polynomial.specs.Polynomials.{value_at, stored, Annihilates, conjugates, factors_at, SomeNeither};
 ghost use Rattle.polynomial.specs.Steps.{raised, lower};
 
+use crate::accepted::Accepted;
 use crate::binary::Binary;
 use crate::scratch::Scratch;
 use field::Element;
@@ -75,4 +76,18 @@ pub fn make_polynomial<K: Binary>(subkey: K, scratch: &mut [K]) -> Result<K, Ref
     let (elements, _) = scratch.split_at_mut(K::width());
     let mut scratch = Scratch { elements };
     scratch.find_bits(subkey).ok_or(Refusal::NotBinary)
+}
+
+impl<K: Binary> Accepted<K> {
+    // The maker's polynomial. It annihilates the subkey, so that no trial has to follow.
+    pub fn make(subkey: K, scratch: &mut [K]) -> Result<Accepted<K>, Refusal>
+        ensures value { AcceptedMade K.Binary.own K.Element (length scratch.old) subkey result }
+        ensures scratch { scratch.new ≡ scratch_after K.Element K.Binary.width scratch.old }
+    {
+        let coefficients = make_polynomial(subkey, scratch)?;
+        Ok(Accepted {
+            subkey,
+            coefficients,
+        })
+    }
 }

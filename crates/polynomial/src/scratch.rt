@@ -5,11 +5,14 @@ use crate::binary::Binary;
 use field::Element;
 
 // A lent scratch: as many elements as a polynomial has coefficients, zeroed when it goes, on whichever way the call ends.
+// The two calls that take one look at its length themselves: tried, but no borrow is proved through a constructor that
+// answers a `Result`.
 pub(crate) struct Scratch<'a, K: Binary> {
     pub(crate) elements: &'a mut [K],
     ghost whole: { length elements.now ≡ K.Binary.width },
 }
 
+// Not `fill`: it asks for a clone that cannot fail, and nothing says so of every `Copy` kind.
 fn clear<E: Element + Copy>(elements: &mut [E])
     ensures { elements.new ≡ replicate (length elements.old) E.Element.zero }
 {

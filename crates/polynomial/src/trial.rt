@@ -2,9 +2,10 @@
 ghost use Rattle.std.specs.Prelude.{◌≡◌, map, length};
 ghost use Rattle.std.specs.List.{range_with_len};
 ghost use Rattle.field.specs.Evaluation.{power};
-ghost use Rattle.polynomial.specs.Outcomes.{Tried, scratch_after};
+ghost use Rattle.polynomial.specs.Outcomes.{PolynomialTried, scratch_after};
 ghost use Rattle.polynomial.specs.Polynomials.{value_at, stored};
 
+use crate::accepted::Accepted;
 use crate::binary::Binary;
 use crate::scratch::Scratch;
 use field::Element;
@@ -48,9 +49,20 @@ impl<K: Binary> Scratch<'_, K> {
     }
 }
 
-// Accepts a proposal exactly when it annihilates the subkey, and answers how many of its coefficients are one.
-pub fn try_proposal<K: Binary>(subkey: K, proposal: K, scratch: &mut [K]) -> Result<u32, Refusal>
-    ensures value { Tried K.Element K.Binary.width (length scratch.old) (K.Binary.bits proposal) subkey result }
+// An accepted polynomial and how many of its stored coefficients are one.
+#[derive(Clone, Copy)]
+pub struct Trial<K: Binary> {
+    pub polynomial: Accepted<K>,
+    pub weight: u32,
+}
+
+// Accepts a proposal exactly when it annihilates the subkey. The front of the scratch is wiped.
+pub fn try_polynomial<K: Binary>(
+    subkey: K,
+    proposal: K,
+    scratch: &mut [K],
+) -> Result<Trial<K>, Refusal>
+    ensures value { PolynomialTried K.Binary.own K.Element (length scratch.old) subkey proposal result }
     ensures scratch { scratch.new ≡ scratch_after K.Element K.Binary.width scratch.old }
 {
     if scratch.len() < K::width() {
@@ -61,5 +73,10 @@ pub fn try_proposal<K: Binary>(subkey: K, proposal: K, scratch: &mut [K]) -> Res
     if !scratch.value_at(subkey, proposal).is_zero() {
         return Err(Refusal::DoesNotAnnihilate);
     }
-    Ok(proposal.weight())
+    let polynomial = Accepted {
+        subkey,
+        coefficients: proposal,
+    };
+    let weight = proposal.weight();
+    Ok(Trial { polynomial, weight })
 }
