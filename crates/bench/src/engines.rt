@@ -2,7 +2,7 @@
 use anyhow::anyhow;
 use engine::{Division, Engine, Step};
 use field::{Block, Element};
-use polynomial::{Accepted, make_polynomial, try_polynomial};
+use polynomial::Accepted;
 use std::time::Instant;
 
 const LENGTHS: [u32; 9] = [128, 192, 256, 384, 512, 768, 1024, 1280, 1536];
@@ -41,15 +41,9 @@ fn measure<E: Engine>(
 }
 
 // A polynomial that the key annihilates.
-pub(crate) fn accepted() -> Option<Accepted> {
+pub(crate) fn accepted() -> Option<Accepted<Block>> {
     let mut scratch = [Block::zero(); 128];
-    let Ok(made) = make_polynomial(key(), &mut scratch) else {
-        return None;
-    };
-    let Ok(trial) = try_polynomial(key(), made, &mut scratch) else {
-        return None;
-    };
-    Some(trial.polynomial)
+    Accepted::make(key(), &mut scratch).ok()
 }
 
 pub(crate) fn engines(rt: &HostRuntime, count: u32) -> anyhow::Result<()> {

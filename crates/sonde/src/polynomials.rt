@@ -4,12 +4,10 @@ use crate::words::block_word;
 use field::{Block, Element};
 use polynomial::{Accepted, Binary, make_polynomial, try_polynomial};
 
-// The maker's polynomial, tried.
-pub(crate) fn accepted(subkey: Block) -> Result<Accepted, Stop> {
+// The maker's polynomial, as an accepted one.
+pub(crate) fn accepted(subkey: Block) -> Result<Accepted<Block>, Stop> {
     let mut scratch = [Block::zero(); 128];
-    let made = make_polynomial(subkey, &mut scratch)?;
-    let trial = try_polynomial(subkey, made, &mut scratch)?;
-    Ok(trial.polynomial)
+    Ok(Accepted::make(subkey, &mut scratch)?)
 }
 
 pub(crate) fn print_maker(rt: &HostRuntime, words: &[String]) -> Result<(), Stop> {

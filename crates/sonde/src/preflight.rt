@@ -21,7 +21,7 @@ const AROUND: usize = 17;
 const PAST_DEGREE: usize = 129 * 16 + 7;
 
 // 1: the polynomial is the given one, else the maker's.
-fn try_flight(rt: &HostRuntime, flight: &Flight) -> Result<Accepted, Stop> {
+fn try_flight(rt: &HostRuntime, flight: &Flight) -> Result<Accepted<Block>, Stop> {
     let polynomial = match flight.proposal {
         Some(proposal) => {
             let mut scratch = [Block::zero(); 128];
@@ -174,7 +174,11 @@ fn cut_flight(rt: &HostRuntime, flight: &Flight, tag: Block) -> Result<(), Stop>
 }
 
 // 4: a pair of both engines, switched around the degree of the polynomial. A shorter body is filled with zeros for this.
-fn switch_flight(rt: &HostRuntime, flight: &Flight, polynomial: Accepted) -> Result<(), Stop> {
+fn switch_flight(
+    rt: &HostRuntime,
+    flight: &Flight,
+    polynomial: Accepted<Block>,
+) -> Result<(), Stop> {
     let mut body = Vec::new(rt.alloc());
     body.extend_from_slice(flight.body.as_slice())?;
     let short = body.len() < PAST_DEGREE;

@@ -2,7 +2,7 @@
 use crate::case::Fault;
 use engine::{Division, Engine, Pair, Step};
 use field::{Block, Element};
-use polynomial::{make_polynomial, try_polynomial};
+use polynomial::Accepted;
 use std::alloc::AllocError;
 
 // The hash of some blocks, with a switch asked for after every `every` of them.
@@ -42,8 +42,7 @@ pub(crate) fn push_part(blocks: &mut Vec<Block>, part: &[u8]) -> Result<(), Allo
 // Whether all engines give the same hash of the blocks, and that hash.
 fn engines_agree(subkey: Block, blocks: &[Block], every: usize) -> Result<(bool, Block), Fault> {
     let mut scratch = [Block::zero(); 128];
-    let made = make_polynomial(subkey, &mut scratch)?;
-    let polynomial = try_polynomial(subkey, made, &mut scratch)?.polynomial;
+    let polynomial = Accepted::make(subkey, &mut scratch)?;
     let by_step = hash(&mut Step::new(subkey), blocks, every);
     let by_division = hash(&mut Division::new(polynomial), blocks, every);
     let mut pair = Pair::new(Step::new(subkey), Division::new(polynomial));

@@ -4,7 +4,7 @@ use crate::engines::{hash, push_part};
 use engine::{Division, Engine, Pair, Step};
 use field::{Block, Element};
 use job::{Call, Closed, hash_difference, replay};
-use polynomial::{Accepted, make_polynomial, try_polynomial};
+use polynomial::Accepted;
 use std::alloc::{AllocError, Global};
 
 const CUTS: [usize; 5] = [1, 7, 15, 16, 17];
@@ -43,16 +43,15 @@ fn closed<E: Engine + Drop>(
     }
 }
 
-fn accepted(subkey: Block) -> Result<Accepted, Fault> {
+fn accepted(subkey: Block) -> Result<Accepted<Block>, Fault> {
     let mut scratch = [Block::zero(); 128];
-    let made = make_polynomial(subkey, &mut scratch)?;
-    Ok(try_polynomial(subkey, made, &mut scratch)?.polynomial)
+    Ok(Accepted::make(subkey, &mut scratch)?)
 }
 
 // Whether the tag is the published one at this cut, over both engines.
 fn tags_agree(
     heap: Global,
-    polynomial: Accepted,
+    polynomial: Accepted<Block>,
     header: &[u8],
     body: &[u8],
     cut: usize,

@@ -1,7 +1,7 @@
 // Trials and makings, compared with plain evaluations.
 use crate::case::Fault;
 use field::{Block, Element, Nibble};
-use polynomial::{Binary, make_polynomial, try_polynomial, try_proposal};
+use polynomial::{Binary, make_polynomial, try_polynomial};
 
 // t^4 and the proposal's terms at a nibble, by powers.
 fn plain_value(key: Nibble, proposal: u8) -> Nibble {
@@ -19,7 +19,7 @@ fn plain_value(key: Nibble, proposal: u8) -> Nibble {
 // Whether a nibble's trial accepts.
 fn accepts(key: Nibble, proposal: Nibble) -> bool {
     let mut scratch = [Nibble::zero(); 4];
-    try_proposal(key, proposal, &mut scratch).is_ok()
+    try_polynomial(key, proposal, &mut scratch).is_ok()
 }
 
 // Whether the subkey zero accepts the proposal whose only stored term is t^k.
@@ -65,7 +65,8 @@ pub(crate) fn print_trials(rt: &HostRuntime) -> Result<(), Fault> {
     Ok(())
 }
 
-// The maker's polynomial for a subkey, with the weight that the trial of it answers.
+// The maker's polynomial for a subkey, with the weight that the trial of it answers: what is checked here is the trial,
+// so that it is not `Accepted::make`.
 pub(crate) fn print_made(rt: &HostRuntime, subkey: Block) -> Result<(), Fault> {
     let mut scratch = [Block::zero(); 128];
     let made = make_polynomial(subkey, &mut scratch)?;
