@@ -3,7 +3,7 @@ ghost use Rattle.std.specs.Prelude.{◌≡◌, length, take};
 ghost use Rattle.field.specs.Bytes.{block_of};
 ghost use Rattle.field.specs.Evaluation.{absorbed};
 ghost use Rattle.field.specs.Kinds.{block_ring};
-ghost use Rattle.message.specs.Blocks.{AreBytes, filled, blocks, blocks_taken, block_of_counts};
+ghost use Rattle.message.specs.Blocks.{filled, blocks, blocks_taken, block_of_counts};
 
 use field::{Block, Element};
 
@@ -19,11 +19,9 @@ pub fn block_of(piece: &[u8]) -> Block
     Block::from_bytes(bytes)
 }
 
-// The value after the blocks of one part, each taken in by (value + block)·subkey. It also says that the part holds bytes,
-// which a caller that has it in a struct does not know.
+// The value after the blocks of one part, each taken in by (value + block)·subkey.
 pub(crate) fn absorb_part(subkey: Block, start: Block, part: &[u8]) -> Block
-    ensures value { result ≡ absorbed block_ring subkey start (blocks part.now) }
-    ensures bytes { AreBytes part.now }
+    ensures { result ≡ absorbed block_ring subkey start (blocks part.now) }
 {
     let mut value = start;
     for piece in part.chunks(16) {

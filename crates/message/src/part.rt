@@ -1,5 +1,6 @@
 // A message, and its two parts, each with its limit.
-ghost use Rattle.std.specs.Prelude.{◌≡◌, Ok, Some};
+ghost use Rattle.std.specs.Prelude.{◌≡◌, IfOk, Some};
+ghost use Rattle.message.specs.Blocks.{AreBytes};
 ghost use Rattle.message.specs.Limits.{limit_of, name_of, refusal_of_part, within_limit, within_limits};
 
 use refusal::Refusal;
@@ -38,7 +39,8 @@ impl Part {
 
     // Refuses a part over its limit.
     fn check_length(self, bytes: &[u8]) -> Result<(), Refusal>
-        ensures { result ≡ within_limit self bytes.now (Ok tt) }
+        ensures answer { result ≡ within_limit self bytes.now (Ok tt) }
+        ensures bytes { AreBytes bytes.now }
     {
         if bytes.len() as u64 > self.limit() {
             return Err(self.too_long());
@@ -66,9 +68,11 @@ pub struct Message<'a> {
 }
 
 impl Message<'_> {
-    // Refuses a header over its limit, and then a body over its limit.
+    // Refuses a header over its limit, and then a body over its limit. Both hold bytes, which a proof knows of a slice that is
+    // passed and not of one in a struct.
     pub fn check_lengths(self) -> Result<(), Refusal>
-        ensures { result ≡ within_limits self.entry.header.now self.entry.body.now (Ok tt) }
+        ensures answer { result ≡ within_limits self.entry.header.now self.entry.body.now (Ok tt) }
+        ensures bytes { IfOk result (λ _. AreBytes self.entry.header.now × AreBytes self.entry.body.now) }
     {
         Part::Header.check_length(self.header)?;
         Part::Body.check_length(self.body)

@@ -31,7 +31,7 @@ loop-piece-preserved c =
       went.0 ∙ c.loop-piece.invariant.1,
     )
 
-pub returns-clause-value : goal.returns-clause-value
-returns-clause-value c =
+pub returns : goal.returns
+returns c =
     let none = blocks_none (chunks_rest c.loop-piece.piece-iterator) c.in-None.ensures.steps.1.0 in
     sym (ap (absorbed block_ring c.args.subkey c.loop-piece.value) none) ∙ c.loop-piece.invariant.0

@@ -33,9 +33,9 @@ returns c =
     let header : List ℕ = c.args.self.header.now in
     let body : List ℕ = c.args.self.body.now in
     let first : c.absorb_part-after_header.result ≡ absorbed block_ring subkey block_ring.zero (blocks header) =
-    c.absorb_part-after_header.ensures.value ∙ ap (λ (v : Block). absorbed block_ring subkey v (blocks header)) c.zero.ensures in
+    c.absorb_part-after_header.ensures ∙ ap (λ (v : Block). absorbed block_ring subkey v (blocks header)) c.zero.ensures in
     let second : c.absorb_part-after_body.result ≡ absorbed block_ring subkey (absorbed block_ring subkey block_ring.zero (blocks header)) (blocks body) =
-    c.absorb_part-after_body.ensures.value ∙ ap (λ (v : Block). absorbed block_ring subkey v (blocks body)) first in
+    c.absorb_part-after_body.ensures ∙ ap (λ (v : Block). absorbed block_ring subkey v (blocks body)) first in
     let lengths : c.block_of_byte_counts-lengths.result ≡ block_of_lengths header body =
     c.block_of_byte_counts-lengths.ensures ∙ sym (lengths_counts header body) in
     let hashed : c.times-hash.result ≡ hash_of subkey header body =
@@ -46,10 +46,11 @@ returns c =
     c.plus-2.ensures ∙ ap (λ (v : Block). block_ring.sum v pad) hashed in
     let made : ◌≡◌ {A = Digest} (record { hash = c.times-hash.result; tag = c.plus-2.result; blocks = c.count_blocks.result }) (digest_of subkey pad header body) =
     λ i. record { hash = hashed i; tag = tagged i; blocks = c.count_blocks.ensures i } in
+    let bytes = c.in_ok-check_lengths.ensures.bytes in
     record {
-      value = ap taken made ∙ after_lengths (Ok (digest_of subkey pad header body)) header body tt (Ok tt) (sym c.in_ok-check_lengths.was ∙ c.check_lengths.ensures);
+      value = ap taken made ∙ after_lengths (Ok (digest_of subkey pad header body)) header body tt (Ok tt) (sym c.in_ok-check_lengths.was ∙ c.check_lengths.ensures.answer);
       standard =
           subst (λ (t : Block). MeetsStandard subkey pad header body c.times-hash.result t) (sym tagged)
           (subst (λ (h : Block). MeetsStandard subkey pad header body h (tag_of subkey pad header body)) (sym hashed)
-          (meets_standard subkey pad header body c.absorb_part-after_header.ensures.bytes c.absorb_part-after_body.ensures.bytes));
+          (meets_standard subkey pad header body bytes.0 bytes.1));
     }
