@@ -10,6 +10,9 @@ use field::{Block, Element, Nibble, Word, evaluate};
 use message::Message;
 use refusal::Refusal;
 
+// The key of the words.
+const KEY: u32 = 16_807;
+
 #[derive(Clone, Copy)]
 pub struct Readings {
     pub nibble_product: Nibble,
@@ -38,18 +41,18 @@ fn nibble_value() -> Nibble
     evaluate(Nibble::new(0b0010), &[one, one])
 }
 
-// 1 at the key 16,807.
+// 1 at the key.
 fn word_one() -> Word
     ensures { result ≡ word 16807 }
 {
-    evaluate(Word::new(16_807), &[Word::new(1)])
+    evaluate(Word::new(KEY), &[Word::new(1)])
 }
 
-// 1, 0 at the key 16,807.
+// 1, 0 at the key.
 fn word_two() -> Word
     ensures { result ≡ word 282475249 }
 {
-    evaluate(Word::new(16_807), &[Word::new(1), Word::new(0)])
+    evaluate(Word::new(KEY), &[Word::new(1), Word::new(0)])
 }
 
 // 00..00 01 at the key 40 00..00.
