@@ -6,7 +6,7 @@ use Rattle.field.specs.declared.kinds.Block.{Block}
 use Rattle.field.specs.Instances.{same_block}
 use Rattle.readings.specs.Table.{first, last}
 use Rattle.readings.proofs.Rows.{table}
-use Rattle.readings.proofs.block_reading.Goals as goal
+use Rattle.readings.proofs.block_value.Goals as goal
 
 pub returns : goal.returns
 unfolding numeral
