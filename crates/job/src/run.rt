@@ -39,8 +39,8 @@ impl<E: Engine> Filling<E> {
         ensures count { self.new.count ≤ limit_of part }
         ensures answered { (h : Block) (given : Bool) (before : List Block) (taken : List ℕ) → Holds E.Engine h given before self.old taken → Answered E.Engine part h given before self.old taken calls.now answers.new.items self.new }
     {
-        for i in 0..calls.len() {
-            answers.push_reserved(self.answer(part, &calls[i]));
+        for call in calls {
+            answers.push_reserved(self.answer(part, call));
         }
     }
 }
