@@ -1,5 +1,5 @@
 -- One piece after another, and what the job holds then.
-use Rattle.std.proofs.Common.{◌≡◌, ℕ, ◌+◌, ◌%◌, ◌<◌, Bool, List, [], ◌++◌, length, sym, ap, ◌∙◌, subst, append_assoc, append-nil, arith, length-append}
+use Rattle.std.proofs.Common.{◌≡◌, ℕ, ◌+◌, ◌%◌, ◌<◌, Bool, List, [], ◌++◌, length, sym, refl, ap, ◌∙◌, subst, append_assoc, append-nil, arith, length-append}
 use Rattle.std.proofs.lemmas.List.{length-take}
 use Rattle.field.specs.Evaluation.{eval}
 use Rattle.field.specs.Kinds.{block_ring}
@@ -31,6 +31,7 @@ module _ {E : Type 0} (m : Ghosts E) where
           b.left ∙ ap (λ w. left_over (w ++ ys)) a.left ∙ sym (left_append (pending f ++ xs) ys)
           ∙ ap left_over (append_assoc (pending f) xs ys);
       count = simp length-append (omega (arith, a.count, b.count));
+      part = b.part ∙ a.part;
     }
 
   -- how many bytes wait after a piece
@@ -49,6 +50,7 @@ module _ {E : Type 0} (m : Ghosts E) where
         hashed = subst (λ (ps : List Block). Hashed m f.engine ps f.engine) (sym (full_short (pending f ++ []) short)) (hashed_none m f.engine);
         left = sym (left_short (pending f ++ []) short ∙ e);
         count = omega arith;
+        part = refl;
       }
 
   module _ (h : Block) (switches : Bool) (before : List Block) (f t : Filling E) (taken : List ℕ) (held : Holds m h switches before f taken) where

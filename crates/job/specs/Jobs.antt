@@ -23,18 +23,21 @@ module _ {E : Type 0} (m : Ghosts E) where
     pub hashed : Hashed m f.engine (full_blocks (pending f ++ piece)) t.engine
     pub left : pending t ≡ left_over (pending f ++ piece)
     pub count : t.count ≡ f.count + length piece
+    pub part : t.part ≡ f.part
 
   -- The waiting bytes were hashed, filled with zeros; none wait now.
   pub record Flushed (f t : Filling E) : Type 0 where
     pub hashed : Hashed m f.engine (blocks (pending f)) t.engine
     pub left : pending t ≡ []
     pub count : t.count ≡ f.count
+    pub part : t.part ≡ f.part
 
   -- The engine was asked to switch; the bytes stay.
   pub record Switched (f : Filling E) (answer : Bool) (t : Filling E) : Type 0 where
     pub engine : m.switched f.engine answer t.engine
     pub left : (t.held ≡ f.held) × (t.fill ≡ f.fill)
     pub count : t.count ≡ f.count
+    pub part : t.part ≡ f.part
 
   -- The engine came with this subkey and this ready, and after the blocks before it the part has taken these bytes:
   -- T is the evaluation of the blocks already full.

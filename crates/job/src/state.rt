@@ -1,26 +1,30 @@
 // What a job holds, in each of its states.
 ghost use Rattle.std.specs.Prelude.{◌≡◌, ◌-◌, ◌<◌, ◌≤◌, drop, replicate};
+ghost use Rattle.message.specs.Limits.{header_limit, limit_of};
+ghost use Rattle.message.specs.declared.part.Part.TheVariants.{Header, Body};
 
 use field::Block;
+use message::Part;
 
-// An engine that is fed bytes: those that fill no block yet wait in `held`.
+// An engine that is fed the bytes of a part: those that fill no block yet wait in `held`.
 #[derive(Drop)]
 pub struct Filling<E> {
     pub(crate) engine: E,
+    pub(crate) part: Part,
     pub(crate) held: [u8; 16],
     pub(crate) fill: usize,
     // The bytes of the part that were taken so far.
     pub(crate) count: u64,
     ghost room: { fill < 16 },
     ghost blank: { drop fill held ≡ replicate (16 - fill) 0 },
-    ghost few: { count ≤ 68719476704 },
+    ghost few: { count ≤ limit_of part },
 }
 
 // A job that takes its header.
 #[derive(Drop)]
 pub struct HeaderJob<E> {
     pub(crate) filling: Filling<E>,
-    ghost short: { filling.count ≤ 65535 },
+    ghost taking: { filling.part ≡ Header },
 }
 
 // A job that takes its body; the header's length is kept for the length block.
@@ -28,7 +32,8 @@ pub struct HeaderJob<E> {
 pub struct BodyJob<E> {
     pub(crate) filling: Filling<E>,
     pub(crate) header: u64,
-    ghost short: { header ≤ 65535 },
+    ghost taking: { filling.part ≡ Body },
+    ghost short: { header ≤ header_limit },
 }
 
 // What a job ends with.

@@ -17,6 +17,7 @@ returns-then-self-gt0 g c =
           (hashed_one m f.engine e _ _ said.value said.subkey said.ready said.whole c.from_bytes.ensures.value);
       left = refl;
       count = refl;
+      part = refl;
     }
 
 pub returns-else-self-gt0 : goal.returns-else-self-gt0
@@ -30,4 +31,5 @@ returns-else-self-gt0 g c =
           (hashed_none m f.engine);
       left = ap (λ n. take n f.held) none;
       count = refl;
+      part = refl;
     }

@@ -13,7 +13,7 @@ invariant_of-self-else-end-eq16 g c =
     record {
       room = omega arith;
       blank = still_blank f.held f.fill f.room f.blank piece _ c.copy_from_slice.ensures.after c.requires.room _ long;
-      few = omega arith;
+      few = omega (arith, c.requires.few);
     }
 
 pub returns-then-end-eq16 : goal.returns-then-end-eq16
@@ -32,6 +32,7 @@ returns-then-end-eq16 g c =
           (hashed_one m f.engine e _ _ said.value said.subkey said.ready said.whole c.from_bytes.ensures.value);
       left = sym (none_left f.held f.fill f.room f.blank piece _ c.copy_from_slice.ensures.after c.requires.room _ long full);
       count = refl;
+      part = refl;
     }
 
 pub returns-else-end-eq16 : goal.returns-else-end-eq16
@@ -50,4 +51,5 @@ returns-else-end-eq16 g c =
           still_waiting f.held f.fill f.room f.blank piece _ wrote c.requires.room _ long
           ∙ sym (short_left f.held f.fill f.room f.blank piece _ wrote c.requires.room _ long short);
       count = refl;
+      part = refl;
     }
