@@ -1,5 +1,5 @@
--- Jobs that hold the same are the same, and answers by cases.
-use Rattle.std.proofs.Common.{◌≡◌, ◌≤◌, Ok, Err, Result, MatchResult, refl}
+-- Jobs that hold the same are the same.
+use Rattle.std.proofs.Common.{◌≡◌, ◌≤◌, refl}
 use mathlib.Core.HLevel.{is_prop→PathP, hedberg}
 use native.Mathlib.Bridge.{le_prop}
 use Rattle.message.specs.declared.part.Part.{Part}
@@ -27,7 +27,3 @@ module _ {E : Type 0} where
     taking = is_prop→PathP (λ j. (e j).part ≡ Body) (λ j. hedberg same_part (e j).part Body) u.taking v.taking i;
     short = is_prop→PathP (λ j. n j ≤ 65535) (λ j. le_prop) u.short v.short i;
   }
-
-pub cases_on : {A B : Type 0} (r : Result A B) {P P' : A → Type 0} {Q Q' : B → Type 0} → MatchResult r P Q → ((x : A) → P x → P' x) → ((y : B) → Q y → Q' y) → MatchResult r P' Q'
-cases_on (Ok x) a f g = f x a
-cases_on (Err y) a f g = g y a

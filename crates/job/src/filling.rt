@@ -1,32 +1,44 @@
 // Bytes cut into blocks on their way to an engine.
-ghost use Rattle.std.specs.Prelude.{◌≡◌, ℕ, ◌+◌, ◌≤◌, Bool, List, length, is_ok, MatchResult};
+ghost use Rattle.std.specs.Prelude.{◌≡◌, ℕ, Bool, List, [], ◌∷◌, is_ok, MatchResult};
 ghost use Rattle.field.specs.declared.kinds.Block.{Block};
 ghost use Rattle.engine.specs.Hashing.{switch_answer};
-ghost use Rattle.job.specs.Jobs.{Fed, Flushed, Holds, Switched};
-ghost use Rattle.message.specs.Limits.{limit_of};
+ghost use Rattle.job.specs.Jobs.{Cut, Fed, Flushed, Holds, Switched};
 ghost use Rattle.job.specs.Plain.{feed_answer, joined};
 
 use crate::state::Filling;
 use engine::Engine;
-use field::Block;
+use message::block_of;
 use refusal::Refusal;
 
 impl<E: Engine> Filling<E> {
-    // Bytes join those that wait, and all are hashed once they fill the block.
-    fn hold(&mut self, piece: &[u8])
-        requires room { self.old.fill + length piece.now ≤ 16 }
-        requires few { self.old.count + length piece.now ≤ limit_of self.old.part }
-        ensures { Fed E.Engine self.old piece.now self.new }
+    // One more byte waits, and all that wait are hashed once they fill the block.
+    fn push(&mut self, byte: u8)
+        ensures { Cut E.Engine self.old (byte ∷ []) self.new }
     {
-        let end = self.fill + piece.len();
-        self.held[self.fill..end].copy_from_slice(piece);
-        self.count += piece.len() as u64;
-        if end == 16 {
-            self.engine.absorb(Block::from_bytes(self.held));
-            self.held = [0; 16];
-            self.fill = 0;
+        self.held.push(byte);
+        if self.held.is_full() {
+            self.engine.absorb(block_of(self.held.as_slice()));
+            self.held.clear();
+        }
+    }
+
+    // Bytes join those that wait, one by one.
+    fn hold(&mut self, piece: &[u8])
+        ensures { Cut E.Engine self.old piece.now self.new }
+    {
+        for byte in piece {
+            self.push(*byte);
+        }
+    }
+
+    // A whole block goes straight to the engine, where no byte waits before it.
+    fn take(&mut self, piece: &[u8])
+        ensures { Cut E.Engine self.old piece.now self.new }
+    {
+        if self.held.is_empty() && piece.len() == 16 {
+            self.engine.absorb(block_of(piece));
         } else {
-            self.fill = end;
+            self.hold(piece);
         }
     }
 
@@ -34,10 +46,9 @@ impl<E: Engine> Filling<E> {
     pub(crate) fn flush(&mut self)
         ensures { Flushed E.Engine self.old self.new }
     {
-        if self.fill > 0 {
-            self.engine.absorb(Block::from_bytes(self.held));
-            self.held = [0; 16];
-            self.fill = 0;
+        if !self.held.is_empty() {
+            self.engine.absorb(block_of(self.held.as_slice()));
+            self.held.clear();
         }
     }
 
@@ -50,10 +61,11 @@ impl<E: Engine> Filling<E> {
         if piece.len() as u64 > self.part.limit() - self.count {
             return Err(self.part.too_long());
         }
-        let (first, rest) = piece.split_at((16 - self.fill).min(piece.len()));
+        self.count += piece.len() as u64;
+        let (first, rest) = piece.split_at(self.held.remaining_capacity().min(piece.len()));
         self.hold(first);
         for block in rest.chunks(16) {
-            self.hold(block);
+            self.take(block);
         }
         Ok(())
     }

@@ -8,6 +8,7 @@ ghost use Rattle.job.specs.Plain.{feed_answer, joined};
 ghost use Rattle.message.specs.declared.part.Part.TheVariants.{Header};
 
 use crate::state::{BodyJob, Filling, HeaderJob};
+use arrayvec::ArrayVec;
 use engine::Engine;
 use field::{Block, Element};
 use message::Part;
@@ -24,8 +25,7 @@ impl<E: Engine> HeaderJob<E> {
             filling: Filling {
                 engine,
                 part: Part::Header,
-                held: [0; 16],
-                fill: 0,
+                held: ArrayVec::new(),
                 count: 0,
             },
         }

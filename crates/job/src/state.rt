@@ -1,8 +1,10 @@
 // What a job holds, in each of its states.
-ghost use Rattle.std.specs.Prelude.{◌≡◌, ◌-◌, ◌<◌, ◌≤◌, drop, replicate};
+ghost use Rattle.std.specs.Prelude.{◌≡◌, ◌<◌, ◌≤◌};
+ghost use Rattle.arrayvec.specs.ArrayVec.{array_vec_len};
 ghost use Rattle.message.specs.Limits.{header_limit, limit_of};
 ghost use Rattle.message.specs.declared.part.Part.TheVariants.{Header, Body};
 
+use arrayvec::ArrayVec;
 use field::Block;
 use message::Part;
 
@@ -11,12 +13,10 @@ use message::Part;
 pub struct Filling<E> {
     pub(crate) engine: E,
     pub(crate) part: Part,
-    pub(crate) held: [u8; 16],
-    pub(crate) fill: usize,
+    pub(crate) held: ArrayVec<u8, 16>,
     // The bytes of the part that were taken so far.
     pub(crate) count: u64,
-    ghost room: { fill < 16 },
-    ghost blank: { drop fill held ≡ replicate (16 - fill) 0 },
+    ghost room: { array_vec_len held < 16 },
     ghost few: { count ≤ limit_of part },
 }
 

@@ -1,8 +1,9 @@
 use Rattle.std.proofs.Common.{◌≡◌, [], subst}
+use Rattle.std.proofs.lemmas.Result.{MatchResult-weaker}
 use Rattle.message.specs.declared.part.Part.{Part}
 use Rattle.job.specs.Jobs.{Holds}
 use Rattle.job.specs.Plain.{feed_answer, joined}
-use Rattle.job.proofs.Same.{same_header, cases_on}
+use Rattle.job.proofs.Same.{same_header}
 use Rattle.job.proofs.state.HeaderJob.feed.Goals as goal
 
 pub returns : goal.returns
@@ -14,5 +15,5 @@ returns g c =
       holds = λ h switches header held.
           subst (λ (p : Part). (answer ≡ feed_answer p header piece) × Holds g.E.Engine h switches [] t (joined p header piece))
           c.args.self.now.taking (c.put.ensures.holds h switches [] header held);
-      whole = cases_on answer c.put.ensures.whole (λ x fed. fed) (λ x same. same_header _ _ same);
+      whole = MatchResult-weaker answer c.put.ensures.whole (λ x fed. fed) (λ x same. same_header _ _ same);
     }
