@@ -20,7 +20,7 @@ pub struct Filling<E> {
     ghost few: { count ≤ limit_of part },
 }
 
-// A job that takes its header.
+// A job that takes its header. Two types, and no `Job<E, S>`: what only one state holds or does would need a trait over S.
 #[derive(Drop)]
 pub struct HeaderJob<E> {
     pub(crate) filling: Filling<E>,

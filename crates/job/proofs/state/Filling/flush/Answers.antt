@@ -1,12 +1,10 @@
-use Rattle.std.proofs.Common.{◌≡◌, ◌<◌, List, length, take, sym, refl, ap, ◌∙◌, subst, arith}
+use Rattle.std.proofs.Common.{◌≡◌, ◌<◌, length, take, sym, refl, ap, ◌∙◌, arith}
 use Rattle.std.proofs.lemmas.Bool.{eqb-true, eqb-false}
 use Rattle.std.proofs.lemmas.List.{nil_from_length}
 use Rattle.field.specs.Bytes.{block_of}
-use Rattle.field.specs.declared.kinds.Block.{Block}
 use Rattle.message.specs.Blocks.{filled}
 use Rattle.message.proofs.Cutting.{blocks_none}
-use Rattle.engine.specs.Rows.{Hashed}
-use Rattle.engine.proofs.HashedRows.{hashed_none, hashed_one}
+use Rattle.job.proofs.Feeding.{row_none, row_one}
 use Rattle.job.specs.Jobs.{pending}
 use Rattle.job.proofs.Cutting.{last_block}
 use Rattle.job.proofs.state.Filling.flush.Goals as goal
@@ -22,9 +20,7 @@ returns-then-not-is_empty g c =
     let block : c.block_of.result ≡ block_of (filled (take 16 (pending f))) =
     c.block_of.ensures ∙ ap (λ xs. block_of (filled (take 16 xs))) c.as_slice.ensures.value in
     record {
-      hashed =
-          subst (λ (ps : List Block). Hashed m f.engine ps e) (sym (last_block (pending f) some (omega (arith, f.room))))
-          (hashed_one m f.engine e _ _ said.value said.subkey said.ready said.whole block);
+      hashed = row_one m f.engine e _ _ said.value said.subkey said.ready said.whole block _ (last_block (pending f) some (omega (arith, f.room)));
       left = c.clear.ensures;
       count = refl;
       part = refl;
@@ -36,7 +32,7 @@ returns-else-not-is_empty g c =
     let f = c.args.self.now in
     let none : length (pending f) ≡ 0 = eqb-true _ _ (sym c.is_empty.ensures ∙ c.if-not-is_empty.false) in
     record {
-      hashed = subst (λ (ps : List Block). Hashed m f.engine ps f.engine) (sym (blocks_none (pending f) none)) (hashed_none m f.engine);
+      hashed = row_none m f.engine _ (blocks_none (pending f) none);
       left = nil_from_length _ none;
       count = refl;
       part = refl;

@@ -1,5 +1,5 @@
-use Rattle.std.proofs.Common.{ℕ, List, [], ◌∷◌, get_or, take, sym, subst, arith}
-use Rattle.std.proofs.lemmas.List.{take_more, take_all}
+use Rattle.std.proofs.Common.{ℕ, List, [], ◌∷◌, get_or, take, sym, subst}
+use Rattle.std.proofs.lemmas.List.{take_more}
 use Rattle.job.specs.Jobs.{Cut}
 use Rattle.job.proofs.Feeding.{cut_none, cut_append}
 use Rattle.job.proofs.state.Filling.hold.Goals as goal
@@ -15,8 +15,3 @@ loop-byte-preserved g c =
     let piece : List ℕ = c.args.piece.now in
     subst (λ (xs : List ℕ). Cut m f xs c.push.new.self) (sym (take_more piece i 0 c.loop-byte-test.true))
     (cut_append m f c.loop-byte.self c.push.new.self (take i piece) (get_or piece i 0 ∷ []) c.loop-byte.invariant c.push.ensures)
-
-pub returns : goal.returns
-returns g c =
-    subst (λ (xs : List ℕ). Cut g.E.Engine c.args.self.now xs c.loop-byte.self)
-    (take_all c.loop-byte.byte-index c.args.piece.now (omega arith)) c.loop-byte.invariant

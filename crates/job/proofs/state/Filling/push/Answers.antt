@@ -1,10 +1,8 @@
-use Rattle.std.proofs.Common.{◌≡◌, ℕ, ◌<◌, List, [], ◌∷◌, ◌++◌, length, take, sym, refl, ap, ◌∙◌, subst, arith}
+use Rattle.std.proofs.Common.{◌≡◌, ℕ, ◌<◌, List, [], ◌∷◌, ◌++◌, length, take, sym, refl, ap, ◌∙◌, arith}
 use Rattle.std.proofs.lemmas.Bool.{eqb-true, eqb-false}
 use Rattle.field.specs.Bytes.{block_of}
-use Rattle.field.specs.declared.kinds.Block.{Block}
 use Rattle.message.specs.Blocks.{filled}
-use Rattle.engine.specs.Rows.{Hashed}
-use Rattle.engine.proofs.HashedRows.{hashed_none, hashed_one}
+use Rattle.job.proofs.Feeding.{row_none, row_one}
 use Rattle.job.specs.Jobs.{pending}
 use Rattle.job.proofs.Cutting.{full_one, left_none, full_short, left_short}
 use Rattle.job.proofs.state.Filling.push.Goals as goal
@@ -21,9 +19,7 @@ returns-then-is_full g c =
     let block : c.block_of.result ≡ block_of (filled (take 16 joined)) =
     c.block_of.ensures ∙ ap (λ xs. block_of (filled (take 16 xs))) (c.as_slice.ensures.value ∙ held) in
     record {
-      hashed =
-          subst (λ (ps : List Block). Hashed m f.engine ps e) (sym (full_one joined full))
-          (hashed_one m f.engine e _ _ said.value said.subkey said.ready said.whole block);
+      hashed = row_one m f.engine e _ _ said.value said.subkey said.ready said.whole block _ (full_one joined full);
       left = c.clear.ensures ∙ sym (left_none joined full);
       count = refl;
       part = refl;
@@ -38,7 +34,7 @@ returns-else-is_full g c =
     let other = eqb-false _ _ (sym c.is_full.ensures.value ∙ c.if-is_full.false) in
     let short : length joined < 16 = omega (arith, other, ap length held, c.is_full.ensures.fits) in
     record {
-      hashed = subst (λ (ps : List Block). Hashed m f.engine ps f.engine) (sym (full_short joined short)) (hashed_none m f.engine);
+      hashed = row_none m f.engine _ (full_short joined short);
       left = held ∙ sym (left_short joined short);
       count = refl;
       part = refl;
