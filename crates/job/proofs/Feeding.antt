@@ -1,28 +1,22 @@
 -- One piece after another, and what the job holds then.
-use Rattle.std.proofs.Common.{◌≡◌, ℕ, ◌+◌, ◌<◌, Bool, List, [], ◌∷◌, ◌++◌, length, sym, refl, ap, ◌∙◌, subst, ap₂, append_assoc, append-nil, arith, length-append}
+use Rattle.std.proofs.Common.{◌≡◌, ℕ, ◌+◌, ◌<◌, Bool, List, [], ◌++◌, length, sym, refl, ap, ◌∙◌, subst, ap₂, append_assoc, append-nil, arith, length-append}
 use Rattle.field.specs.Evaluation.{eval}
 use Rattle.field.specs.Kinds.{block_ring}
 use Rattle.field.specs.declared.kinds.Block.{Block}
 use Rattle.message.specs.Blocks.{AreBytes, blocks}
 use Rattle.message.proofs.StandardHash.{small_append}
-use Rattle.engine.specs.Hashing.{hash_step}
 use Rattle.engine.specs.Rows.{Hashed}
 use Rattle.engine.specs.declared.engine.Engine.{Ghosts}
-use Rattle.engine.proofs.HashedRows.{hashed_none, hashed_one, hashed_append, hashed_eval}
+use Rattle.engine.proofs.HashedRows.{hashed_none, hashed_append, hashed_eval}
 use Rattle.job.specs.Cuts.{full_blocks, left_over}
 use Rattle.job.specs.Jobs.{Cut, Fed, Flushed, Holds, pending}
 use Rattle.job.specs.declared.state.Filling.{Filling}
 use Rattle.job.proofs.Cutting.{full_append, left_append, full_short, left_short, blocks_full}
 
 module _ {E : Type 0} (m : Ghosts E) where
-  -- a row that is empty, and one that is a block which was absorbed
+  -- a row that is empty
   pub row_none : (e : E) (ps : List Block) → ps ≡ [] → Hashed m e ps e
   row_none e ps none = subst (λ (qs : List Block). Hashed m e qs e) (sym none) (hashed_none m e)
-
-  module _ (e t : E) (p q : Block) (value : m.value_of t ≡ hash_step (m.subkey_of e) (m.value_of e) p) (subkey : m.subkey_of t ≡ m.subkey_of e)
-      (ready : m.ready_of t ≡ m.ready_of e) (whole : m.absorbed e p t) (same : p ≡ q) where
-    pub row_one : (ps : List Block) → ps ≡ q ∷ [] → Hashed m e ps t
-    row_one ps one = subst (λ (qs : List Block). Hashed m e qs t) (sym one) (hashed_one m e t p q value subkey ready whole same)
 
   module _ (f g h : Filling E) (xs ys : List ℕ) (a : Cut m f xs g) (b : Cut m g ys h) where
     both : full_blocks (pending f ++ (xs ++ ys)) ≡ full_blocks (pending f ++ xs) ++ full_blocks (pending g ++ ys)

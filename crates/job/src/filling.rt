@@ -1,14 +1,27 @@
 // Bytes cut into blocks on their way to an engine.
-ghost use Rattle.std.specs.Prelude.{◌≡◌, ℕ, Bool, List, [], ◌∷◌, is_ok, MatchResult};
+ghost use Rattle.std.specs.Prelude.{◌≡◌, ℕ, Bool, List, [], ◌∷◌, take, is_ok, MatchResult};
+ghost use Rattle.field.specs.Bytes.{block_of};
 ghost use Rattle.field.specs.declared.kinds.Block.{Block};
 ghost use Rattle.engine.specs.Hashing.{switch_answer};
+ghost use Rattle.engine.specs.Rows.{Hashed};
+ghost use Rattle.message.specs.Blocks.{filled};
 ghost use Rattle.job.specs.Jobs.{Cut, Fed, Flushed, Holds, Switched};
 ghost use Rattle.job.specs.Plain.{feed_answer, joined};
 
 use crate::state::Filling;
+use arrayvec::ArrayVec;
 use engine::Engine;
 use message::block_of;
 use refusal::Refusal;
+
+// The bytes that wait are hashed, filled with zeros.
+fn absorb_held<E: Engine>(engine: &mut E, held: &mut ArrayVec<u8, 16>)
+    ensures hashed { Hashed E.Engine engine.old (block_of (filled (take 16 held.old.items)) ∷ []) engine.new }
+    ensures left { held.new.items ≡ [] }
+{
+    engine.absorb(block_of(held.as_slice()));
+    held.clear();
+}
 
 impl<E: Engine> Filling<E> {
     // One more byte waits, and all that wait are hashed once they fill the block.
@@ -17,8 +30,7 @@ impl<E: Engine> Filling<E> {
     {
         self.held.push(byte);
         if self.held.is_full() {
-            self.engine.absorb(block_of(self.held.as_slice()));
-            self.held.clear();
+            absorb_held(&mut self.engine, &mut self.held);
         }
     }
 
@@ -47,8 +59,7 @@ impl<E: Engine> Filling<E> {
         ensures { Flushed E.Engine self.old self.new }
     {
         if !self.held.is_empty() {
-            self.engine.absorb(block_of(self.held.as_slice()));
-            self.held.clear();
+            absorb_held(&mut self.engine, &mut self.held);
         }
     }
 

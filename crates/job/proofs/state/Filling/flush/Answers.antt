@@ -1,10 +1,10 @@
-use Rattle.std.proofs.Common.{◌≡◌, ◌<◌, length, take, sym, refl, ap, ◌∙◌, arith}
+use Rattle.std.proofs.Common.{◌≡◌, List, ◌<◌, length, sym, refl, ◌∙◌, subst, arith}
 use Rattle.std.proofs.lemmas.Bool.{eqb-true, eqb-false}
 use Rattle.std.proofs.lemmas.List.{nil_from_length}
-use Rattle.field.specs.Bytes.{block_of}
-use Rattle.message.specs.Blocks.{filled}
+use Rattle.field.specs.declared.kinds.Block.{Block}
 use Rattle.message.proofs.Cutting.{blocks_none}
-use Rattle.job.proofs.Feeding.{row_none, row_one}
+use Rattle.job.proofs.Feeding.{row_none}
+use Rattle.engine.specs.Rows.{Hashed}
 use Rattle.job.specs.Jobs.{pending}
 use Rattle.job.proofs.Cutting.{last_block}
 use Rattle.job.proofs.state.Filling.flush.Goals as goal
@@ -13,15 +13,14 @@ pub returns-then-not-is_empty : goal.returns-then-not-is_empty
 returns-then-not-is_empty g c =
     let m = g.E.Engine in
     let f = c.args.self.now in
-    let e = c.absorb.new.self in
-    let said = c.absorb.ensures in
+    let e = c.absorb_held.new.engine in
     let other = eqb-false _ _ (sym c.is_empty.ensures ∙ c.if-not-is_empty.true) in
     let some : 0 < length (pending f) = omega (arith, other) in
-    let block : c.block_of.result ≡ block_of (filled (take 16 (pending f))) =
-    c.block_of.ensures ∙ ap (λ xs. block_of (filled (take 16 xs))) c.as_slice.ensures.value in
     record {
-      hashed = row_one m f.engine e _ _ said.value said.subkey said.ready said.whole block _ (last_block (pending f) some (omega (arith, f.room)));
-      left = c.clear.ensures;
+      hashed =
+          subst (λ (ps : List Block). Hashed m f.engine ps e) (sym (last_block (pending f) some (omega (arith, f.room))))
+          c.absorb_held.ensures.hashed;
+      left = c.absorb_held.ensures.left;
       count = refl;
       part = refl;
     }

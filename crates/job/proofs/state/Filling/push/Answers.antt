@@ -1,8 +1,10 @@
-use Rattle.std.proofs.Common.{◌≡◌, ℕ, ◌<◌, List, [], ◌∷◌, ◌++◌, length, take, sym, refl, ap, ◌∙◌, arith}
+use Rattle.std.proofs.Common.{◌≡◌, ℕ, ◌<◌, List, [], ◌∷◌, ◌++◌, length, take, sym, refl, ap, ◌∙◌, subst, arith}
 use Rattle.std.proofs.lemmas.Bool.{eqb-true, eqb-false}
 use Rattle.field.specs.Bytes.{block_of}
+use Rattle.field.specs.declared.kinds.Block.{Block}
 use Rattle.message.specs.Blocks.{filled}
-use Rattle.job.proofs.Feeding.{row_none, row_one}
+use Rattle.job.proofs.Feeding.{row_none}
+use Rattle.engine.specs.Rows.{Hashed}
 use Rattle.job.specs.Jobs.{pending}
 use Rattle.job.proofs.Cutting.{full_one, left_none, full_short, left_short}
 use Rattle.job.proofs.state.Filling.push.Goals as goal
@@ -11,16 +13,15 @@ pub returns-then-is_full : goal.returns-then-is_full
 returns-then-is_full g c =
     let m = g.E.Engine in
     let f = c.args.self.now in
-    let e = c.absorb.new.self in
-    let said = c.absorb.ensures in
+    let e = c.absorb_held.new.engine in
     let joined : List ℕ = pending f ++ (c.args.byte ∷ []) in
     let held : c.push.new.self.items ≡ joined = c.push.ensures.items in
     let full : length joined ≡ 16 = sym (ap length held) ∙ eqb-true _ _ (sym c.is_full.ensures.value ∙ c.if-is_full.true) in
-    let block : c.block_of.result ≡ block_of (filled (take 16 joined)) =
-    c.block_of.ensures ∙ ap (λ xs. block_of (filled (take 16 xs))) (c.as_slice.ensures.value ∙ held) in
     record {
-      hashed = row_one m f.engine e _ _ said.value said.subkey said.ready said.whole block _ (full_one joined full);
-      left = c.clear.ensures ∙ sym (left_none joined full);
+      hashed =
+          subst (λ (ps : List Block). Hashed m f.engine ps e) (ap (λ xs. block_of (filled (take 16 xs)) ∷ []) held ∙ sym (full_one joined full))
+          c.absorb_held.ensures.hashed;
+      left = c.absorb_held.ensures.left ∙ sym (left_none joined full);
       count = refl;
       part = refl;
     }

@@ -1,7 +1,9 @@
-use Rattle.std.proofs.Common.{◌≡◌, [], ◌++◌, sym, refl, ap, ◌∙◌, arith, length}
+use Rattle.std.proofs.Common.{◌≡◌, List, [], ◌++◌, sym, refl, ap, ◌∙◌, subst, arith, length}
 use Rattle.std.proofs.lemmas.Bool.{eqb-true}
 use Rattle.std.proofs.lemmas.List.{nil_from_length}
-use Rattle.job.proofs.Feeding.{row_one}
+use Rattle.engine.specs.Rows.{Hashed}
+use Rattle.engine.proofs.HashedRows.{hashed_one}
+use Rattle.field.specs.declared.kinds.Block.{Block}
 use Rattle.job.specs.Cuts.{full_blocks, left_over}
 use Rattle.job.specs.Jobs.{pending}
 use Rattle.job.proofs.Cutting.{full_one, left_none}
@@ -18,7 +20,9 @@ returns-then-piece-eq16 g c =
     let none : pending f ≡ [] = nil_from_length _ (eqb-true _ _ (sym c.is_empty.ensures ∙ c.if-is_empty.true)) in
     let alone : pending f ++ piece ≡ piece = ap (λ xs. xs ++ piece) none in
     record {
-      hashed = row_one m f.engine e _ _ said.value said.subkey said.ready said.whole c.block_of.ensures _ (ap full_blocks alone ∙ full_one piece sixteen);
+      hashed =
+          subst (λ (ps : List Block). Hashed m f.engine ps e) (sym (ap full_blocks alone ∙ full_one piece sixteen))
+          (hashed_one m f.engine e _ _ said.value said.subkey said.ready said.whole c.block_of.ensures);
       left = none ∙ sym (ap left_over alone ∙ left_none piece sixteen);
       count = refl;
       part = refl;
