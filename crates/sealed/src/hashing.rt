@@ -1,6 +1,7 @@
 // Whole jobs, on an engine that is moved in and handed back.
 ghost use Rattle.std.specs.Prelude.{◌≡◌, ◌≤◌, true, length};
 ghost use Rattle.format.specs.Faults.{body_in, header_in, is_size_good};
+ghost use Rattle.format.specs.Kinds.{number_of};
 ghost use Rattle.message.specs.Limits.{header_limit, body_limit};
 ghost use Rattle.message.specs.Hash.{hash_of, tag_of};
 ghost use Rattle.sealed.specs.Checking.{data_of_kind};
@@ -10,6 +11,7 @@ ghost use Rattle.sealed.specs.Feeding.{BodyFed, HeaderFed};
 use crate::prefix::read_prefix;
 use engine::Engine;
 use field::Block;
+use format::Kind;
 use job::{BodyJob, Closed, HeaderJob};
 
 pub(crate) fn hash_parts<E: Engine>(engine: E, pad: Block, header: &[u8], body: &[u8]) -> Closed<E>
@@ -27,12 +29,11 @@ pub(crate) fn hash_parts<E: Engine>(engine: E, pad: Block, header: &[u8], body: 
 }
 
 // The data of a block of this kind, and none of another.
-fn data_for<'a>(block: &'a [u8], kind: u8) -> &'a [u8]
-    requires { 6 ≤ length block.now }
-    ensures { result.now ≡ data_of_kind kind block.now }
+fn data_for<'a>(block: &'a [u8; 512], kind: Kind) -> &'a [u8]
+    ensures { result.now ≡ data_of_kind (number_of kind) block.now }
 {
     let (prefix, rest) = read_prefix(block);
-    if prefix.kind != kind {
+    if prefix.kind != kind.number() {
         return &rest[0..0];
     }
     let end = prefix.used.min(rest.len());
@@ -44,8 +45,9 @@ fn feed_header<E: Engine>(job: &mut HeaderJob<E>, file: &[u8])
     requires { length (header_in file.now) ≤ header_limit }
     ensures { HeaderFed E.Engine job.old (header_in file.now) job.new }
 {
-    for k in 0..file.len() / 512 {
-        let _ = job.feed(data_for(&file[512 * k..512 * k + 512], 1));
+    let (blocks, _rest) = file.as_chunks::<512>();
+    for block in blocks {
+        let _ = job.feed(data_for(block, Kind::Header));
     }
 }
 
@@ -54,8 +56,9 @@ fn feed_body<E: Engine>(job: &mut BodyJob<E>, file: &[u8])
     requires { length (body_in file.now) ≤ body_limit }
     ensures { BodyFed E.Engine job.old (body_in file.now) job.new }
 {
-    for k in 0..file.len() / 512 {
-        let _ = job.feed(data_for(&file[512 * k..512 * k + 512], 2));
+    let (blocks, _rest) = file.as_chunks::<512>();
+    for block in blocks {
+        let _ = job.feed(data_for(block, Kind::Body));
     }
 }
 

@@ -13,6 +13,7 @@ mod reader;
 mod reading;
 mod record;
 mod scanning;
+mod shape;
 mod writing;
 mod written;
 

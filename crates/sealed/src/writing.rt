@@ -10,6 +10,7 @@ use crate::laying::{put_block, put_part};
 use crate::written::{Sealed, Written};
 use engine::Engine;
 use field::Block;
+use format::Kind;
 use job::Closed;
 use refusal::Refusal;
 
@@ -53,9 +54,9 @@ pub fn write_file<E: Engine>(
         }
     };
     let Closed { engine, hash, tag } = hash_parts(engine, pad, header, body);
-    let next = put_part(output, 0, 1, header);
-    let next = put_part(output, next, 2, body);
-    put_block(output, next, 3, &tag.to_bytes());
+    let next = put_part(output, 0, Kind::Header, header);
+    let next = put_part(output, next, Kind::Body, body);
+    put_block(output, next, Kind::End, &tag.to_bytes());
     Written {
         engine,
         answer: Ok(Sealed { blocks, hash, tag }),

@@ -1,5 +1,6 @@
 use Rattle.std.proofs.Common.{◌≡◌, ℕ, ◌+◌, ◌-◌, ◌*◌, List, ◌++◌, length, take, ap, ◌∙◌, arith}
 use Rattle.std.proofs.lemmas.Slice.{take-put_mid, drop-put_mid}
+use Rattle.format.specs.Kinds.{number_of}
 use Rattle.sealed.proofs.Layers.{block_length}
 use Rattle.sealed.proofs.laying.put_block.Goals as goal
 
@@ -9,7 +10,7 @@ returns c =
     let n : ℕ = c.args.number in
     let k : ℕ = 512 * n + 512 - 512 * n in
     let block : List ℕ = c.fill_block.new.block in
-    let whole : length block ≡ 512 = ap length c.fill_block.ensures ∙ block_length n c.args.kind c.args.data.now c.requires.fits in
+    let whole : length block ≡ 512 = ap length c.fill_block.ensures ∙ block_length n (number_of c.args.kind) c.args.data.now c.requires.fits in
     let size : length block ≡ k = omega (arith, whole) in
     record {
       front =

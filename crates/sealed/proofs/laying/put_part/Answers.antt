@@ -1,13 +1,14 @@
 use Rattle.std.proofs.Common.{◌≡◌, ℕ, suc, ◌+◌, ◌*◌, ◌<◌, min, List, ◌∷◌, ◌++◌, map, length, take, sym, ap, ◌∙◌, subst, ap₂, append_assoc, append-nil, add-one, arith}
 use Rattle.std.specs.Slice.Iter.{chunks_rest}
 use Rattle.format.specs.Layout.{block_bytes, content, laid, pieces}
+use Rattle.format.specs.Kinds.{number_of}
 use Rattle.format.proofs.Pieces.{pieces_none}
 use Rattle.sealed.proofs.Layers.{count_more, drop_further, next_piece}
 use Rattle.sealed.proofs.laying.put_part.Goals as goal
 
 pub loop-piece-preserved : goal.loop-piece-preserved
 loop-piece-preserved c =
-    let kind : ℕ = c.args.kind in
+    let kind : ℕ = number_of c.args.kind in
     let n : ℕ = c.loop-piece.number in
     let entry : List ℕ = c.args.output.now in
     let out : List ℕ = c.loop-piece.output in
@@ -33,7 +34,7 @@ loop-piece-preserved c =
 
 pub returns : goal.returns
 returns c =
-    let kind : ℕ = c.args.kind in
+    let kind : ℕ = number_of c.args.kind in
     let n : ℕ = c.loop-piece.number in
     let inv = c.loop-piece.invariant in
     let left : List ℕ = chunks_rest c.loop-piece.piece-iterator in
