@@ -2,6 +2,7 @@
 use crate::engines::key;
 use engine::Step;
 use field::{Block, Element};
+use message::Message;
 use sealed::{check_file, write_file};
 use std::time::Instant;
 use tag::tag_message;
@@ -14,9 +15,10 @@ const FILE: usize = 512 * 2_090;
 // The tag of a row of hashes; each pad is the tag before, so that no hash can be left out.
 fn hashes(body: &[u8], count: u32) -> Block {
     let mut last = Block::one();
+    let message = Message { header: &[], body };
     for _ in 0..count {
-        if let Ok(tagged) = tag_message(&mut Step::new(key()), last, &[], body) {
-            last = tagged.tag;
+        if let Ok(digest) = tag_message(&mut Step::new(key()), last, message) {
+            last = digest.tag;
         }
     }
     last

@@ -2,7 +2,7 @@
 use crate::stop::{Argument, Stop};
 use crate::words::{block_word, bytes_word, file_word, number_word};
 use engine::Step;
-use message::{Part, find_block};
+use message::Message;
 use std::io;
 use tag::check_tag;
 
@@ -18,13 +18,11 @@ pub(crate) fn check_files(rt: &HostRuntime, words: &[String]) -> Result<(), Stop
     let header = file_word(rt, Argument::Header, header.as_str())?;
     let body = file_word(rt, Argument::Body, body.as_str())?;
     let given = bytes_word(rt, Argument::Tag, tag.as_str())?;
-    check_tag(
-        &mut engine,
-        pad,
-        header.as_slice(),
-        body.as_slice(),
-        given.as_slice(),
-    )?;
+    let message = Message {
+        header: header.as_slice(),
+        body: body.as_slice(),
+    };
+    check_tag(&mut engine, pad, message, given.as_slice())?;
     println!(rt; "accepted, {} bytes of the tag", given.len())?;
     Ok(())
 }
@@ -46,14 +44,15 @@ pub(crate) fn find_in_files(rt: &HostRuntime, words: &[String]) -> Result<(), St
     let header = file_word(rt, Argument::Header, header.as_str())?;
     let body = file_word(rt, Argument::Body, body.as_str())?;
     let number = number_word(Argument::Number, number.as_str())?;
-    let Some(found) = find_block(header.as_slice(), body.as_slice(), number) else {
+    let message = Message {
+        header: header.as_slice(),
+        body: body.as_slice(),
+    };
+    let Some(found) = message.find_block(number) else {
         println!(rt; "no block {number}")?;
         return Ok(());
     };
-    let part = match found.part {
-        Part::Header => "header",
-        Part::Body => "body",
-    };
+    let part = found.part;
     let offset = found.offset;
     let count = found.bytes.len();
     print!(rt; "block {number}: {part} at {offset}, {count} bytes: ")?;

@@ -7,10 +7,10 @@ use crate::words::file_word;
 use engine::{Division, Engine, Pair};
 use field::{Block, Element};
 use job::{BodyJob, Closed, HeaderJob};
-use message::{Part, block_of, block_of_byte_counts, find_block};
+use message::{Digest, Message, Part, block_of, block_of_byte_counts};
 use polynomial::{Accepted, Binary, try_polynomial};
 use sealed::{ReadFault, check_file, read_parts};
-use tag::{Tagged, tag_message};
+use tag::tag_message;
 
 // Every cut within so many bytes of the body's front is tried, and of its middle and its end within so many to both sides.
 const FRONT: usize = 64;
@@ -64,13 +64,14 @@ fn cut_job<E: Engine + Drop>(
 
 // The hash of the blocks that the finder finds, and the length block.
 fn found_hash(subkey: Block, header: &[u8], body: &[u8]) -> Block {
+    let message = Message { header, body };
     let mut engine = engine::Step::new(subkey);
     let blocks = header
         .len()
         .div_ceil(16)
         .saturating_add(body.len().div_ceil(16));
     for n in 0..blocks {
-        if let Some(found) = find_block(header, body, n) {
+        if let Some(found) = message.find_block(n) {
             engine.absorb(block_of(found.bytes));
         }
     }
@@ -79,11 +80,11 @@ fn found_hash(subkey: Block, header: &[u8], body: &[u8]) -> Block {
 }
 
 // 2: the job against the one-shot call and against the blocks that the finder finds.
-fn hash_flight(rt: &HostRuntime, flight: &Flight) -> Result<Tagged, Stop> {
+fn hash_flight(rt: &HostRuntime, flight: &Flight) -> Result<Digest, Stop> {
     let header = flight.header.as_slice();
     let body = flight.body.as_slice();
     let mut engine = engine::Step::new(flight.subkey);
-    let tagged = tag_message(&mut engine, flight.pad, header, body)?;
+    let tagged = tag_message(&mut engine, flight.pad, Message { header, body })?;
     let fresh = engine::Step::new(flight.subkey);
     let closed = cut_job(fresh, flight.pad, header, body, body.len())?;
     if closed.hash != tagged.hash {
@@ -122,6 +123,7 @@ fn cuts_agree(flight: &Flight, tag: Block, from: usize, to: usize) -> Result<usi
 
 // Whether the blocks found begin where the one before ended, and reach the ends of both parts.
 fn blocks_join(header: &[u8], body: &[u8]) -> bool {
+    let message = Message { header, body };
     let blocks = header
         .len()
         .div_ceil(16)
@@ -130,7 +132,7 @@ fn blocks_join(header: &[u8], body: &[u8]) -> bool {
     let mut in_body = 0usize;
     let mut joined = true;
     for n in 0..blocks {
-        match find_block(header, body, n) {
+        match message.find_block(n) {
             Some(found) => {
                 let end = found.offset.saturating_add(found.bytes.len());
                 match found.part {
@@ -185,7 +187,7 @@ fn switch_flight(rt: &HostRuntime, flight: &Flight, polynomial: Accepted) -> Res
     let header = flight.header.as_slice();
     let body = body.as_slice();
     let mut alone = engine::Step::new(flight.subkey);
-    let tagged = tag_message(&mut alone, flight.pad, header, body)?;
+    let tagged = tag_message(&mut alone, flight.pad, Message { header, body })?;
     for at in [126 * 16, 127 * 16, 128 * 16, 128 * 16 + 7] {
         let pair = Pair::new(engine::Step::new(flight.subkey), Division::new(polynomial));
         if cut_job(pair, flight.pad, header, body, at)?.tag != tagged.tag {

@@ -1,7 +1,7 @@
 // The command `tag`: the hash and tag of two files.
 use crate::stop::{Argument, Stop};
 use crate::words::{block_word, file_word};
-use message::hash_and_tag;
+use message::Message;
 
 pub(crate) fn tag_files(rt: &HostRuntime, words: &[String]) -> Result<(), Stop> {
     let [subkey, pad, header, body] = words else {
@@ -14,7 +14,11 @@ pub(crate) fn tag_files(rt: &HostRuntime, words: &[String]) -> Result<(), Stop> 
     let pad = block_word(Argument::Pad, pad.as_str())?;
     let header_bytes = file_word(rt, Argument::Header, header.as_str())?;
     let body_bytes = file_word(rt, Argument::Body, body.as_str())?;
-    let digest = hash_and_tag(subkey, pad, header_bytes.as_slice(), body_bytes.as_slice())?;
+    let message = Message {
+        header: header_bytes.as_slice(),
+        body: body_bytes.as_slice(),
+    };
+    let digest = message.hash_and_tag(subkey, pad)?;
     let header_len = header_bytes.len();
     let body_len = body_bytes.len();
     println!(rt; "header {header}: {header_len} bytes")?;

@@ -3,7 +3,7 @@ use crate::engines::print_engines;
 use crate::jobs::print_jobs;
 use crate::trials::print_made;
 use hexadecimal::{HexFault, parse_block, parse_bytes};
-use message::hash_and_tag;
+use message::Message;
 use refusal::Refusal;
 use std::alloc::{AllocError, Global};
 use std::io;
@@ -61,12 +61,11 @@ pub(crate) fn compare(rt: &HostRuntime, line: &str, more: bool) -> Result<bool, 
     let subkey = parse_block(subkey)?;
     let header = read_part(rt.alloc(), header)?;
     let body = read_part(rt.alloc(), body)?;
-    let digest = hash_and_tag(
-        subkey,
-        parse_block(pad)?,
-        header.as_slice(),
-        body.as_slice(),
-    )?;
+    let message = Message {
+        header: header.as_slice(),
+        body: body.as_slice(),
+    };
+    let digest = message.hash_and_tag(subkey, parse_block(pad)?)?;
     let same = digest.hash == parse_block(hash)? && digest.tag == parse_block(tag)?;
     let verdict = if same { "as published" } else { "DIFFERS" };
     println!(rt;
