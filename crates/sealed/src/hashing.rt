@@ -13,18 +13,19 @@ use engine::Engine;
 use field::Block;
 use format::Kind;
 use job::{BodyJob, Closed, HeaderJob};
+use message::Message;
 
-pub(crate) fn hash_parts<E: Engine>(engine: E, pad: Block, header: &[u8], body: &[u8]) -> Closed<E>
-    requires short { length header.now ≤ header_limit }
-    requires few { length body.now ≤ body_limit }
-    ensures ran { Ran E.Engine engine header.now body.now result.engine }
-    ensures hash { result.hash ≡ hash_of (E.subkey_of engine) header.now body.now }
-    ensures tag { result.tag ≡ tag_of (E.subkey_of engine) pad header.now body.now }
+pub(crate) fn hash_parts<E: Engine>(engine: E, pad: Block, message: Message) -> Closed<E>
+    requires short { length message.header.now ≤ header_limit }
+    requires few { length message.body.now ≤ body_limit }
+    ensures ran { Ran E.Engine engine message.entry.header.now message.entry.body.now result.engine }
+    ensures hash { result.hash ≡ hash_of (E.subkey_of engine) message.entry.header.now message.entry.body.now }
+    ensures tag { result.tag ≡ tag_of (E.subkey_of engine) pad message.entry.header.now message.entry.body.now }
 {
     let mut job = HeaderJob::start(engine);
-    let _ = job.feed(header);
+    let _ = job.feed(message.header);
     let mut job = job.turn();
-    let _ = job.feed(body);
+    let _ = job.feed(message.body);
     job.close(pad)
 }
 

@@ -7,7 +7,7 @@ use Rattle.refusal.specs.declared.Refusal.{Refusal}
 use Rattle.format.specs.Layout.{block_bytes, content, contents, laid, pieces, sealed}
 use Rattle.format.specs.Verdict.{after}
 use Rattle.format.proofs.Laws.{reopens}
-use Rattle.sealed.specs.declared.written.Sealed.{Sealed}
+use Rattle.sealed.specs.declared.handed.Sealed.{Sealed}
 use Rattle.sealed.proofs.Layers.{drop_further, room_enough, whole_laid, limits_kept}
 use Rattle.sealed.proofs.writing.write_file.Goals as goal
 
@@ -19,8 +19,8 @@ unfolding sealed
 returns g c =
     let h : Block = g.E.Engine.subkey_of c.args.engine in
     let pad : Block = c.args.pad in
-    let header : List ℕ = c.args.header.now in
-    let body : List ℕ = c.args.body.now in
+    let header : List ℕ = c.args.message.header.now in
+    let body : List ℕ = c.args.message.body.now in
     let entry : List ℕ = c.args.output.now in
     let o₁ : List ℕ = c.put_part-next.new.output in
     let o₂ : List ℕ = c.put_part-next-2.new.output in
