@@ -4,6 +4,7 @@
 mod checking;
 mod collecting;
 mod faults;
+mod feeding;
 mod handed;
 mod hashing;
 mod laying;

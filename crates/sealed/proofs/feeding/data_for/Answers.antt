@@ -4,7 +4,7 @@ use Rattle.format.specs.Faults.{kind_in}
 use Rattle.format.specs.Kinds.{number_of}
 use Rattle.sealed.specs.declared.prefix.Prefix.{Prefix}
 use Rattle.sealed.proofs.Scans.{take_min}
-use Rattle.sealed.proofs.hashing.data_for.Goals as goal
+use Rattle.sealed.proofs.feeding.data_for.Goals as goal
 
 pub returns : goal.returns
 returns c =
