@@ -1,10 +1,10 @@
 -- The blocks of a file by their places, and what the tests on them tell.
-use Rattle.std.proofs.Common.{◌≡◌, ℕ, zero, suc, ◌+◌, ◌-◌, ◌*◌, ◌%◌, ◌<◌, ◌≤◌, Bool, true, false, cond, not, ◌&&◌, eqb, leb, List, length, take, drop, is_some, is_ok, Some, None, Ok, Err, Option, Result, sym, refl, ap, ◌∙◌, inl, inr, arith}
-use Rattle.std.proofs.lemmas.Bool.{true≢false, and_from, and_parts, cases_lt, eqb-true, leb-true, cond-true, cond-false, ne_eqb, eq-eqb}
-use Rattle.std.proofs.lemmas.List.{drop-take, take_rest, length-drop, length-take-le}
+use Rattle.std.proofs.Common.{◌≡◌, ℕ, suc, ◌+◌, ◌-◌, ◌*◌, ◌%◌, ◌<◌, ◌≤◌, Bool, true, false, cond, not, ◌&&◌, eqb, leb, List, length, take, drop, is_some, is_ok, Some, None, Ok, Err, Option, Result, sym, refl, ap, ◌∙◌, arith}
+use Rattle.std.proofs.lemmas.Bool.{true≢false, and_from, and_parts, eqb-true, leb-true, cond-true, cond-false, ne_eqb, eq-eqb}
+use Rattle.std.proofs.lemmas.List.{drop-take, length-drop, length-take-le}
 use Rattle.refusal.specs.declared.Refusal.{Refusal}
 use Rattle.format.specs.Layout.{check_of}
-use Rattle.format.specs.Faults.{Previous, number_in, kind_in, reserve_in, used_in, fill_in, check_in, is_used_fit, is_all_zero, is_form_good, is_order_good, is_size_good, previous, block_at, previous_at, fault_of}
+use Rattle.format.specs.Faults.{Previous, number_in, kind_in, reserve_in, used_in, fill_in, check_in, is_used_fit, is_all_zero, is_form_good, is_order_good, is_size_good, block_at, previous_at, fault_of}
 use Rattle.format.specs.Kinds.{number_of}
 use Rattle.format.specs.declared.kind.Kind.{Kind}
 use Rattle.format.specs.declared.kind.Kind.TheVariants.{Header, Body, End}
@@ -129,23 +129,8 @@ used_of_end b good end =
 
 -- ---- places
 
-pub previous_at_place : (file : List ℕ) (k : ℕ) → (k ≡ 0 → ⊥) → previous (block_at file (k - 1)) ≡ previous_at file k
-previous_at_place file zero some = absurd (some refl)
-previous_at_place file (suc k) some = let e : suc k - 1 ≡ k = omega arith in ap (λ (j : ℕ). previous (block_at file j)) e
-
-pub bytes_left : (file : List ℕ) (n : ℕ) → (length (take (length file - n) (drop n file)) ≡ 0 → ⊥) → n < length file
-bytes_left file n some =
-    elim (cases_lt n (length file)) [
-      | inl less ↦ less
-      | inr all ↦ absurd (some (ap length (take_rest file n) ∙ length-drop n file ∙ omega arith))
-    ]
-
 pub block_size : (file : List ℕ) (k : ℕ) → 512 * suc k ≤ length file → length (block_at file k) ≡ 512
 block_size file k within = length-take-le 512 (drop (512 * k) file) (omega (arith, length-drop (512 * k) file))
-
--- a whole block stands where bytes are left
-pub block_left : (file : List ℕ) (k : ℕ) → Sized file → 512 * k < length file → 512 * suc k ≤ length file
-block_left file k good some = let whole = good.whole in omega arith
 
 pub wrong_block : (file : List ℕ) (k : ℕ) → is_size_good file ≡ true → 512 * k < length file → wrong_at file k ≡ fault_of k (previous_at file k) (block_at file k)
 wrong_block file k good some = cond-true _ _ _ good ∙ cond-false _ _ _ (ne_eqb (512 * k) (length file) (λ e. omega (arith, e)))

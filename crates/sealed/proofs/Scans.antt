@@ -13,10 +13,6 @@ use Rattle.sealed.proofs.Places.{block_size}
 
 -- ---- rows
 
--- the slice from block k to the next
-pub slice_is : (file : List ℕ) (k : ℕ) → take (512 * k + 512 - 512 * k) (drop (512 * k) file) ≡ block_at file k
-slice_is file k = let e : 512 * k + 512 - 512 * k ≡ 512 = omega arith in ap (λ (n : ℕ). take n (drop (512 * k) file)) e
-
 pub rows_split : (n k : ℕ) (file : List ℕ) → rows_of (n + k) file ≡ rows_of n file ++ rows_of k (drop (512 * n) file)
 rows_split zero k file = ap (λ (j : ℕ). rows_of j file) (zero-add k)
 rows_split (suc n) k file =
@@ -110,17 +106,6 @@ data_within kind zero file = omega arith
 data_within kind (suc n) file =
     let both = ap length (data_cons kind (take 512 file) (rows_of n (drop 512 file))) ∙ length-append (data_of_kind kind (take 512 file)) (data_of kind (rows_of n (drop 512 file))) in
     omega (arith, both, data_short kind file, data_within kind n (drop 512 file))
-
--- what is read by block k is part of what is read in the end
-pub data_part : (kind k n : ℕ) (file : List ℕ) → k ≤ n → length (data_of kind (rows_of k file)) ≤ length (data_of kind (rows_of n file))
-data_part kind k n file within =
-    let e : k + (n - k) ≡ n = omega arith in
-    let later = rows_of (n - k) (drop (512 * k) file) in
-    let both =
-    ap (λ (j : ℕ). length (data_of kind (rows_of j file))) (sym e)
-    ∙ ap (λ rows. length (data_of kind rows)) (rows_split k (n - k) file)
-    ∙ ap length (data_append kind (rows_of k file) later) ∙ length-append (data_of kind (rows_of k file)) (data_of kind later) in
-    omega (arith, both)
 
 -- the data of block k stay within the limit of all, and come next
 pub data_next : (kind k limit : ℕ) (bs : List (List ℕ)) (d piece : List ℕ) → k < length bs → length (data_of kind bs) ≤ limit → piece ≡ data_of_kind kind (get_or bs k d)

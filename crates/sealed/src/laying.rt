@@ -42,10 +42,8 @@ pub(crate) fn put_part(output: &mut [u8], first: u32, kind: Kind, part: &[u8]) -
     ensures front { take (512 * result) output.new ≡ take (512 * first) output.old ++ laid first (map (content (number_of kind)) (pieces part.now)) }
     ensures back { drop (512 * result) output.new ≡ drop (512 * result) output.old }
 {
-    let mut number = first;
-    for piece in part.chunks(502) {
-        put_block(output, number, kind, piece);
-        number += 1;
+    for (k, piece) in part.chunks(502).enumerate() {
+        put_block(output, first + k as u32, kind, piece);
     }
-    number
+    first + part.len().div_ceil(502) as u32
 }

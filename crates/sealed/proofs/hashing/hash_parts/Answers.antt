@@ -1,4 +1,4 @@
-use Rattle.std.proofs.Common.{◌≡◌, ℕ, List, [], arith}
+use Rattle.std.proofs.Common.{ℕ, List, [], arith}
 use Rattle.sealed.proofs.Running.{body_none, header_none, ran_whole}
 use Rattle.sealed.proofs.hashing.hash_parts.Goals as goal
 
