@@ -6,6 +6,7 @@ ghost use Rattle.format.specs.Kinds.{number_of};
 use format::{Kind, block_check};
 
 // One block: prefix, data, zeros up to the check, and the check.
+// A slice, not `&mut [u8; 512]`: tried, and what `first_chunk_mut` hands back to the output did not prove in `put_block`.
 fn fill_block(block: &mut [u8], number: u32, kind: Kind, data: &[u8])
     requires whole { length block.old ≡ 512 }
     requires few { number < 65536 }

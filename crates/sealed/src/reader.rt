@@ -1,4 +1,5 @@
 // A window on a file, moved from block to block.
+// No `Iterator`: after a refusal it stays where it is, and would answer the same refusal for ever.
 ghost use Rattle.std.specs.Prelude.{◌≡◌, ◌*◌, ◌≤◌, length};
 ghost use Rattle.format.specs.Faults.{previous_at};
 ghost use Rattle.sealed.specs.Shapes.{previous_of};
