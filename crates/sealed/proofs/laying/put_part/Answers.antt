@@ -42,19 +42,14 @@ loop-k-preserved c =
       size = went.0.0 ∙ inv.size;
     }
 
-pub returns : goal.returns
-returns c =
+pub returns-clause-front : goal.returns-clause-front
+returns-clause-front c =
     let kind : ℕ = number_of c.args.kind in
     let inv = c.loop-k.invariant in
     let left : List ℕ = chunks_rest c.loop-k.k-iterator.iter in
     let none : length left ≡ 0 = c.in-None.ensures.steps.0.1.0 in
     let n : ℕ = c.args.first + c.loop-k.k-iterator.count in
     let end : c.args.first + c.div_ceil.result ≡ n = omega (arith, c.div_ceil.ensures, inv.left, none) in
-    record {
-      next = omega (arith, end, inv.left, none);
-      front =
-          ap (λ (j : ℕ). take (512 * j) c.loop-k.output) end ∙ sym (append-nil (take (512 * n) c.loop-k.output))
-          ∙ sym (ap (λ ps. take (512 * n) c.loop-k.output ++ laid n (map (content kind) ps)) (pieces_none left none))
-          ∙ inv.laid;
-      back = ap (λ (j : ℕ). drop (512 * j) c.loop-k.output) end ∙ inv.after ∙ sym (ap (λ (j : ℕ). drop (512 * j) c.args.output.now) end);
-    }
+    ap (λ (j : ℕ). take (512 * j) c.loop-k.output) end ∙ sym (append-nil (take (512 * n) c.loop-k.output))
+    ∙ sym (ap (λ ps. take (512 * n) c.loop-k.output ++ laid n (map (content kind) ps)) (pieces_none left none))
+    ∙ inv.laid
