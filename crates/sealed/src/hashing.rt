@@ -9,7 +9,7 @@ use crate::feeding::{Takes, feed_part};
 use engine::Engine;
 use field::Block;
 use format::Kind;
-use job::{BodyJob, Closed, HeaderJob};
+use job::{Closed, HeaderJob};
 use message::Message;
 
 pub(crate) fn hash_parts<E: Engine>(engine: E, pad: Block, message: Message) -> Closed<E>
