@@ -28,7 +28,12 @@ fn hashes(body: &[u8], count: u32) -> Block {
 fn writes(body: &[u8], file: &mut [u8], count: u32) -> u32 {
     let mut good = 0u32;
     for _ in 0..count {
-        let written = write_file(Step::new(key()), Block::one(), &[], body, file);
+        let written = write_file(
+            Step::new(key()),
+            Block::one(),
+            Message { header: &[], body },
+            file,
+        );
         if written.answer.is_ok() {
             good = good.saturating_add(1);
         }

@@ -4,6 +4,7 @@ use crate::stop::{Argument, Stop};
 use crate::words::{block_word, file_word};
 use engine::Step;
 use field::Block;
+use message::Message;
 use sealed::{ReadFault, Reader, Record, Sealed, check_file, read_parts, write_file};
 use std::fs;
 
@@ -44,8 +45,10 @@ pub(crate) fn sealed_file(rt: &HostRuntime, flight: &Flight, out: &str) -> Resul
     let written = write_file(
         Step::new(flight.subkey),
         flight.pad,
-        flight.header.as_slice(),
-        flight.body.as_slice(),
+        Message {
+            header: flight.header.as_slice(),
+            body: flight.body.as_slice(),
+        },
         file.as_mut_slice(),
     );
     let sealed = written.answer?;

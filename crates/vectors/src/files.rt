@@ -3,6 +3,7 @@ use crate::case::Fault;
 use engine::Step;
 use field::{Block, Element};
 use format::Lengths;
+use message::Message;
 use refusal::Refusal;
 use sealed::{check_file, write_file};
 use std::alloc::Global;
@@ -20,8 +21,10 @@ fn sealed_blocks(heap: Global, header: usize, body: usize) -> Result<Result<u32,
     let written = write_file(
         Step::new(Block::one()),
         Block::zero(),
-        header.as_slice(),
-        body.as_slice(),
+        Message {
+            header: header.as_slice(),
+            body: body.as_slice(),
+        },
         file.as_mut_slice(),
     );
     let sealed = match written.answer {
