@@ -9,13 +9,14 @@ use polynomial::try_polynomial;
 use refusal::Refusal;
 
 // The weight of a proposal that annihilates.
-pub(crate) fn try_in(subkey: Block, proposal: Block, scratch: &mut [Block]) -> Result<u32, Refusal>
+pub(crate) fn try_in(subkey: Block, proposal: Block, scratch: &mut [Block]) -> Result<u8, Refusal>
     requires { 128 ≤ length scratch.old }
     ensures value { Weighed subkey proposal result }
     ensures scratch { scratch.new ≡ wiped block_ring 128 scratch.old }
 {
     let trial = try_polynomial(subkey, proposal, scratch)?;
-    Ok(trial.weight)
+    // At most 128.
+    Ok(trial.weight as u8)
 }
 
 // Every bit that stands in some block of the scratch.

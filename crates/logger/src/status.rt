@@ -4,13 +4,12 @@ ghost use Rattle.logger.specs.Calls.{number_status};
 
 use refusal::Refusal;
 
-// The number that is answered, at most 128, or the refusal's number below zero.
-pub(crate) fn status(answer: Result<u32, Refusal>) -> i32
-    requires { IfOk answer (λ n. n ≤ 128) }
+// The number that is answered, or the refusal's number below zero.
+pub(crate) fn status(answer: Result<u8, Refusal>) -> i32
     ensures { result ≡ number_status answer }
 {
     match answer {
-        Ok(number) => number as i32,
-        Err(refusal) => -(refusal.number() as i32),
+        Ok(number) => i32::from(number),
+        Err(refusal) => -i32::from(refusal.number()),
     }
 }
