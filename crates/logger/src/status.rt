@@ -1,5 +1,5 @@
 // Answers as C has them.
-ghost use Rattle.std.specs.Prelude.{◌≤◌, ◌≡◌, IfOk};
+ghost use Rattle.std.specs.Prelude.{◌≡◌};
 ghost use Rattle.logger.specs.Calls.{number_status};
 
 use refusal::Refusal;
