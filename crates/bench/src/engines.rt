@@ -3,8 +3,7 @@ use crate::timing::{Timed, time};
 use anyhow::anyhow;
 use engine::{Division, Engine, Step};
 use field::{Block, Element};
-use polynomial::{Accepted, make_polynomial, try_polynomial};
-use refusal::Refusal;
+use polynomial::Accepted;
 
 const LENGTHS: [u32; 9] = [128, 192, 256, 384, 512, 768, 1024, 1280, 1536];
 
@@ -16,6 +15,7 @@ pub(crate) fn key() -> Block {
 // The value after some blocks, each made from its number.
 fn hash<E: Engine>(engine: &mut E, blocks: u32) -> Block {
     engine.resume(Block::zero());
+    // The number is what a block is made from, no index.
     for k in 0..blocks {
         engine.absorb(Block::new(u128::from(k).wrapping_mul(
             0x9e37_79b9_7f4a_7c15_f39c_c060_5ced_c835,
@@ -34,15 +34,10 @@ fn measure<E: Engine>(
     time(rt, count, Block::zero(), |_| hash(engine, blocks))
 }
 
-fn make() -> Result<Accepted, Refusal> {
-    let mut scratch = [Block::zero(); 128];
-    let made = make_polynomial(key(), &mut scratch)?;
-    Ok(try_polynomial(key(), made, &mut scratch)?.polynomial)
-}
-
 // A polynomial that the key annihilates.
-pub(crate) fn accepted() -> anyhow::Result<Accepted> {
-    make().map_err(|_| anyhow!("no polynomial"))
+pub(crate) fn accepted() -> anyhow::Result<Accepted<Block>> {
+    let mut scratch = [Block::zero(); 128];
+    Accepted::make(key(), &mut scratch).map_err(|_| anyhow!("no polynomial"))
 }
 
 pub(crate) fn engines(rt: &HostRuntime, count: u32) -> anyhow::Result<()> {

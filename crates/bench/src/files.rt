@@ -3,6 +3,7 @@ use crate::engines::key;
 use crate::timing::{time, time_tries};
 use engine::Step;
 use field::{Block, Element};
+use message::Message;
 use sealed::{check_file, write_file};
 use tag::tag_message;
 
@@ -11,14 +12,18 @@ const BODY: usize = 1 << 20;
 // The file of that body: 2,089 body blocks and the end.
 const FILE: usize = 512 * 2_090;
 
+fn headless(body: &[u8]) -> Message<'_> {
+    Message { header: &[], body }
+}
+
 // The tag under a pad. Each pad is the tag before, so that no hash can be left out.
 fn tag_after(pad: Block, body: &[u8]) -> Block {
-    tag_message(&mut Step::new(key()), pad, &[], body).map_or(pad, |tagged| tagged.tag)
+    tag_message(&mut Step::new(key()), pad, headless(body)).map_or(pad, |digest| digest.tag)
 }
 
 // Whether the file is written.
 fn writes(body: &[u8], file: &mut [u8]) -> bool {
-    write_file(Step::new(key()), Block::one(), &[], body, file)
+    write_file(Step::new(key()), Block::one(), headless(body), file)
         .answer
         .is_ok()
 }
@@ -43,10 +48,8 @@ pub(crate) fn files(rt: &HostRuntime, count: u32) -> anyhow::Result<()> {
         checking.each_of(1000)
     )?;
     println!(rt;
-        "{} written, {} accepted, and the hashes end at {:032x}",
-        writing.left,
-        checking.left,
-        hashing.left.bits()
+        "{} written, {} accepted, and the hashes end at {}",
+        writing.left, checking.left, hashing.left
     )?;
     Ok(())
 }

@@ -26,9 +26,8 @@ fn product(rt: &HostRuntime, count: u32) -> anyhow::Result<()> {
     let key = key();
     let timed = time(rt, count, start, |value| value.times(key))?;
     println!(rt;
-        "proved {} ns a product, ending at {:032x}",
-        timed.each,
-        timed.left.bits()
+        "proved {} ns a product, ending at {}",
+        timed.each, timed.left
     )?;
     Ok(())
 }
@@ -46,15 +45,18 @@ fn makes() -> bool {
     make_polynomial(key(), &mut scratch).is_ok()
 }
 
-fn trial(rt: &HostRuntime, count: u32) -> anyhow::Result<()> {
-    let timed = time_tries(rt, count, accepts)?;
-    println!(rt; "proved {} ns a trial, {} accepted", timed.each, timed.left)?;
-    Ok(())
-}
-
-fn maker(rt: &HostRuntime, count: u32) -> anyhow::Result<()> {
-    let timed = time_tries(rt, count, makes)?;
-    println!(rt; "proved {} ns a making, {} made", timed.each, timed.left)?;
+// Tries something so many times, and says how long one of them took and how many did what they should.
+fn tries<F: FnMut() -> bool>(
+    rt: &HostRuntime,
+    count: u32,
+    what: &str,
+    done: &str,
+    succeeds: F,
+) -> anyhow::Result<()>
+    requires { (state : F) → F.IsAlwaysCallable state }
+{
+    let timed = time_tries(rt, count, succeeds)?;
+    println!(rt; "proved {} ns a {what}, {} {done}", timed.each, timed.left)?;
     Ok(())
 }
 
@@ -68,8 +70,8 @@ fn run(rt: &HostRuntime) -> anyhow::Result<()> {
     // A plain match: an enum or a table of functions between a word and its call would be no plainer.
     match what.as_str() {
         "product" => product(rt, count),
-        "trial" => trial(rt, count),
-        "maker" => maker(rt, count),
+        "trial" => tries(rt, count, "trial", "accepted", accepts),
+        "maker" => tries(rt, count, "making", "made", makes),
         "engines" => engines(rt, count),
         "jobs" => jobs(rt, count),
         "files" => files(rt, count),

@@ -28,6 +28,7 @@ pub(crate) fn time<S: Drop, F: FnMut(S) -> S>(
 {
     let began = Instant::now(rt)?;
     let mut left = start;
+    // No fold: its closure would do nothing but call the work.
     for _ in 0..count {
         left = work(left);
     }

@@ -1,6 +1,5 @@
 pub mod Chains
 pub mod Subkeys
 pub mod RemainderValues
-pub mod Reducing
 pub mod Reductions
 pub mod HashedRows

@@ -1,6 +1,7 @@
 -- The value of a remainder, where the divisor is zero.
-use Rattle.std.proofs.Common.{◌≡◌, ℕ, zero, suc, ◌+◌, Bool, List, [], ◌∷◌, ◌++◌, length, replicate, sym, refl, ap, ◌∙◌, ap₂, zero-add}
+use Rattle.std.proofs.Common.{◌≡◌, ℕ, zero, suc, ◌+◌, Bool, List, [], ◌∷◌, ◌++◌, length, replicate, reverse, fold, sym, refl, ap, ◌∙◌, ap₂, zero-add}
 use Rattle.std.proofs.lemmas.List.FromFn.{length-map-range_with_len}
+use Rattle.std.proofs.lemmas.List.{reverse-append}
 use Rattle.field.specs.Ring.{CommutativeRing}
 use Rattle.field.specs.Evaluation.{power}
 use Rattle.field.specs.declared.element.Element.{Ghosts}
@@ -73,6 +74,19 @@ module _ {K : Type 0} (m : Ghosts K) (laws : CommutativeRing m.zero m.one m.sum 
   -- the lowest coefficient apart
   pub value_cons : (c : K) (cs : List K) → value_at m r (c ∷ cs) ≡ m.sum c (m.product r (value_at m r cs))
   value_cons c cs = ap₂ m.sum (laws.product_one c) (shift_value zero cs)
+
+  fold_push : (f : K → K → K) (a : K) (xs : List K) (x : K) → fold f a (xs ++ (x ∷ [])) ≡ f (fold f a xs) x
+  fold_push f a [] x = refl
+  fold_push f a (y ∷ ys) x = fold_push f (f a y) ys x
+
+  -- from the highest coefficient down
+  pub value_folded : (cs : List K) → fold (λ s c. m.sum c (m.product r s)) m.zero (reverse cs) ≡ value_at m r cs
+  value_folded [] = refl
+  value_folded (c ∷ cs) =
+      ap (fold (λ s d. m.sum d (m.product r s)) m.zero) (reverse-append (c ∷ []) cs)
+      ∙ fold_push (λ s d. m.sum d (m.product r s)) m.zero (reverse cs) c
+      ∙ ap (λ s. m.sum c (m.product r s)) (value_folded cs)
+      ∙ sym (value_cons c cs)
 
   zeros_value : (j n : ℕ) → value_from m r j (replicate n m.zero) ≡ m.zero
   zeros_value j zero = refl

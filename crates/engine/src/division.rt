@@ -11,12 +11,12 @@ use refusal::Refusal;
 
 #[derive(Drop)]
 pub struct Division {
-    pub(crate) polynomial: Accepted,
+    pub(crate) polynomial: Accepted<Block>,
     pub(crate) state: [Block; 128],
 }
 
 impl Division {
-    pub fn new(polynomial: Accepted) -> Division
+    pub fn new(polynomial: Accepted<Block>) -> Division
         ensures { result ≡ resumed_at polynomial block_ring.zero }
     {
         Division {

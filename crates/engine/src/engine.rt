@@ -27,6 +27,7 @@ pub trait Engine: Sized {
     fn value(&self) -> Block
         ensures answer { result ≡ value_of self.now };
 
+    // No default, nor has `switch`: a default body is proved for every engine, and a pair may be ready.
     fn ready(&self) -> bool
         ensures answer { result ≡ ready_of self.now };
 

@@ -63,6 +63,7 @@ impl<A: Engine, B: Engine> Engine for Pair<A, B> {
 
     ghost switched = { (pair_of A.Engine B.Engine).switched };
 
+    // One `match` for each method: the two engines differ in type, so that no helper can answer the one that runs.
     fn subkey(&self) -> Block {
         match self.running {
             Side::First => self.first.subkey(),

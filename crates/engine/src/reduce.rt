@@ -1,5 +1,5 @@
-// Steps of a division over a lent row of coefficients.
-ghost use Rattle.std.specs.Prelude.{◌≡◌, [], ◌∷◌, ◌++◌, length, replicate, if◌then◌else◌};
+// Steps of a division over a lent row of coefficients. The row is changed while the divisor is read, so each is lent apart.
+ghost use Rattle.std.specs.Prelude.{◌≡◌, [], ◌∷◌, ◌++◌, replicate, if◌then◌else◌};
 ghost use Rattle.field.specs.Kinds.{block_ring};
 ghost use Rattle.polynomial.specs.Blocks.{coefficients_of};
 ghost use Rattle.polynomial.specs.Polynomials.{stored, value_at};
@@ -25,9 +25,9 @@ fn divide(state: &mut [Block], coefficients: Block, top: Block)
     ensures { state.new ≡ reduced block_ring top (coefficients_of coefficients) 0 block_ring.zero state.old }
 {
     let mut below = Block::zero();
-    for j in 0..state.len() {
-        let here = state[j];
-        state[j] = below.plus(chosen(coefficients, j, top));
+    for (j, coefficient) in state.iter_mut().enumerate() {
+        let here = *coefficient;
+        *coefficient = below.plus(chosen(coefficients, j, top));
         below = here;
     }
 }
@@ -36,16 +36,13 @@ fn divide(state: &mut [Block], coefficients: Block, top: Block)
 pub(crate) fn value_at(key: Block, state: &[Block]) -> Block
     ensures { result ≡ value_at block_ring key state.now }
 {
-    let mut sum = Block::zero();
-    for j in 0..state.len() {
-        sum = state[state.len() - 1 - j].plus(key.times(sum));
-    }
-    sum
+    state.iter().rev().fold(Block::zero(), |sum, coefficient| {
+        coefficient.plus(key.times(sum))
+    })
 }
 
 // Replaces W by the remainder of t·(W + block) under division by the polynomial with these coefficients.
-pub(crate) fn absorb_into(state: &mut [Block], coefficients: Block, block: Block)
-    requires { length state.old ≡ 128 }
+pub(crate) fn absorb_into(state: &mut [Block; 128], coefficients: Block, block: Block)
     ensures { Divided block_ring (times_t block_ring (sum_of block_ring state.old (block ∷ []))) (stored block_ring 128 (coefficients_of coefficients) ++ (block_ring.one ∷ [])) state.new 128 }
 {
     state[0] = state[0].plus(block);

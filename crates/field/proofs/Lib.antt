@@ -1,3 +1,4 @@
 pub mod Horner
 pub mod Turns
 pub mod Digits
+pub mod Printed

@@ -4,6 +4,7 @@ pub mod Binary
 pub mod Kinds
 pub mod Digits
 pub mod Bytes
+pub mod Texts
 pub mod Instances
 pub mod Held
 pub mod Products

@@ -1,14 +1,20 @@
 // Blocks: in and out, sum and product.
-ghost use Rattle.std.specs.Prelude.{◌≡◌, ◌+◌, ◌*◌, ◌^◌};
+ghost use Rattle.std.specs.Prelude.{◌≡◌, ◌+◌, ◌*◌, ◌^◌, refl, Some};
 ghost use Rattle.field.specs.Bytes.{block_of, bytes_of};
-ghost use Rattle.field.specs.Kinds.{block, block_ring};
-ghost use Rattle.field.specs.Instances.{block_ring_laws};
+ghost use Rattle.field.specs.Texts.{block_text};
+ghost use Rattle.field.specs.Kinds.{block, block_kind, block_ring};
+ghost use Rattle.field.specs.Instances.{block_lawful, block_ring_laws};
 
-use crate::binary::block_product;
+use crate::binary::{Polynomial, masked, product};
 use crate::element::Element;
 use crate::kinds::Block;
+use std::fmt;
+
+// 1 + x + x^2 + x^7, which stands for x^128.
+const REDUCTION: u128 = 0xe1 << 120;
 
 impl Block {
+    // Conversions have names and no From, since the names say which bit or byte comes first.
     // The coefficient of x^k is bit 127 - k.
     pub fn new(bits: u128) -> Block
         ensures { result ≡ block bits }
@@ -20,7 +26,7 @@ impl Block {
     pub fn from_halves(high: u64, low: u64) -> Block
         ensures { result ≡ block (high * 2 ^ 64 + low) }
     {
-        Block::new((high as u128) << 64 | low as u128)
+        Block::new(u128::from(high) << 64 | u128::from(low))
     }
 
     pub fn bits(self) -> u128
@@ -34,9 +40,7 @@ impl Block {
         ensures value { result ≡ block_of bytes }
         ensures back { bytes_of result ≡ bytes }
     {
-        Block {
-            bits: u128::from_be_bytes(bytes),
-        }
+        Block::new(u128::from_be_bytes(bytes))
     }
 
     pub fn to_bytes(self) -> [u8; 16]
@@ -44,6 +48,17 @@ impl Block {
         ensures back { block_of result ≡ self }
     {
         u128::to_be_bytes(self.bits)
+    }
+}
+
+// 32 hexadecimal digits.
+impl fmt::Display for Block {
+    ghost output = { λ block. Some (block_text block) };
+
+    fn fmt<W: fmt::Write>(&self, f: &mut fmt::Formatter<W>) -> fmt::Result {
+        let high = (self.bits >> 64) as u64;
+        let low = (self.bits % (1 << 64)) as u64;
+        write!(f, "{high:016x}{low:016x}")
     }
 }
 
@@ -59,22 +74,38 @@ impl Element for Block {
     ghost ring = { block_ring_laws };
 
     fn zero() -> Block {
-        Block { bits: 0 }
+        Block::new(0)
     }
 
     fn one() -> Block {
-        Block { bits: 1 << 127 }
+        Block::new(1 << 127)
     }
 
     fn plus(self, other: Block) -> Block {
-        Block {
-            bits: self.bits ^ other.bits,
-        }
+        Block::new(self.bits ^ other.bits)
     }
 
     fn times(self, other: Block) -> Block {
-        Block {
-            bits: block_product(self.bits, other.bits),
-        }
+        Block::new(product::<Block>(self.bits, other.bits))
+    }
+}
+
+impl Polynomial for Block {
+    ghost kind = { block_kind };
+
+    ghost WIDTH = { 128 };
+
+    const WIDTH: u32 = 128;
+
+    ghost width = { refl };
+
+    ghost lawful = { block_lawful };
+
+    fn coefficient(number: u128, k: u32) -> u128 {
+        (number >> (127 - k)) & 1
+    }
+
+    fn raised(number: u128) -> u128 {
+        (number >> 1) ^ masked(number & 1, REDUCTION)
     }
 }

@@ -1,10 +1,14 @@
 // Words: in and out, sum and product.
-ghost use Rattle.std.specs.Prelude.{◌≡◌};
+ghost use Rattle.std.specs.Prelude.{◌≡◌, Some};
 ghost use Rattle.field.specs.Kinds.{word, word_ring};
+ghost use Rattle.field.specs.Texts.{word_text};
 ghost use Rattle.field.specs.Instances.{word_ring_laws};
 
 use crate::element::Element;
 use crate::kinds::Word;
+use std::fmt;
+
+const MODULUS: u32 = 0x7fff_ffff;
 
 impl Word {
     // A number above 2^31 - 2 enters by its remainder.
@@ -12,7 +16,7 @@ impl Word {
         ensures { result ≡ word value }
     {
         Word {
-            value: value % 0x7fff_ffff,
+            value: value % MODULUS,
         }
     }
 
@@ -20,6 +24,14 @@ impl Word {
         ensures { result ≡ self.value }
     {
         self.value
+    }
+}
+
+impl fmt::Display for Word {
+    ghost output = { λ word. Some (word_text word) };
+
+    fn fmt<W: fmt::Write>(&self, f: &mut fmt::Formatter<W>) -> fmt::Result {
+        write!(f, "{}", self.value)
     }
 }
 
@@ -35,23 +47,19 @@ impl Element for Word {
     ghost ring = { word_ring_laws };
 
     fn zero() -> Word {
-        Word { value: 0 }
+        Word::new(0)
     }
 
     fn one() -> Word {
-        Word { value: 1 }
+        Word::new(1)
     }
 
     fn plus(self, other: Word) -> Word {
-        Word {
-            value: (self.value + other.value) % 0x7fff_ffff,
-        }
+        Word::new(self.value + other.value)
     }
 
     fn times(self, other: Word) -> Word {
-        let wide = self.value as u64 * other.value as u64;
-        Word {
-            value: (wide % 0x7fff_ffff) as u32,
-        }
+        let wide = u64::from(self.value) * u64::from(other.value);
+        Word::new((wide % u64::from(MODULUS)) as u32)
     }
 }

@@ -1,5 +1,6 @@
 -- What a file's blocks say, and what is wrong with a file: the first fault in a fixed order.
-use Rattle.std.specs.Prelude.{ℕ, zero, suc, ◌+◌, ◌*◌, ◌/◌, ◌%◌, Bool, true, cond, not, ◌&&◌, ◌||◌, List, [], ◌∷◌, ◌++◌, length, take, drop, Some, None, Ok, Err, Option, Result, ◌==◌, nat_le, slice_index}
+use Rattle.std.specs.Prelude.{ℕ, zero, suc, ◌+◌, ◌*◌, ◌/◌, ◌%◌, Bool, cond, not, ◌&&◌, ◌||◌, List, [], ◌∷◌, ◌++◌, length, take, drop, Some, None, Ok, Err, Option, Result, ◌==◌, nat_le, slice_index}
+use Rattle.std.specs.List.{list_all}
 use Rattle.field.specs.Digits.{numeral}
 use Rattle.refusal.specs.declared.Refusal.{Refusal}
 use Rattle.refusal.specs.declared.Refusal.TheVariants.{WrongCheck, WrongNumber, WrongForm, WrongOrder}
@@ -32,8 +33,7 @@ check_in b = numeral 256 (drop 508 b)
 -- ---- faults of a block
 
 abbrev pub is_all_zero : List ℕ → Bool
-is_all_zero [] = true
-is_all_zero (x ∷ xs) = x == 0 && is_all_zero xs
+is_all_zero xs = list_all (λ x. x == 0) xs
 
 -- 16 in the end block, else 1 to 502
 abbrev pub is_used_fit : ℕ → ℕ → Bool

@@ -2,7 +2,9 @@
 #![tactic(auto)]
 
 mod check;
+mod kind;
 mod lengths;
 
 pub use check::block_check;
+pub use kind::{Kind, NoKind};
 pub use lengths::Lengths;

@@ -1,5 +1,5 @@
 -- Hexadecimal digits: what a character stands for, the first place without one, and what a row of them writes.
-use Rattle.std.specs.Prelude.{ℕ, ◌+◌, ◌-◌, ◌*◌, cond, ◌&&◌, List, [], ◌∷◌, map, is_some, Some, None, Option, nat_le}
+use Rattle.std.specs.Prelude.{ℕ, ◌+◌, ◌-◌, ◌*◌, cond, ◌&&◌, List, [], ◌∷◌, map, position, is_none, Some, None, Option, nat_le}
 use Rattle.std.specs.Option.{unwrap_or}
 use Rattle.field.specs.Digits.{numeral}
 
@@ -15,10 +15,9 @@ digit_of c =
 abbrev pub value_of : ℕ → ℕ
 value_of c = unwrap_or (digit_of c) 0
 
--- the first place that holds no digit, counted from i
-unfoldable pub first_bad : ℕ → List ℕ → Option ℕ
-first_bad i [] = None
-first_bad i (c ∷ cs) = cond (is_some (digit_of c)) (first_bad (i + 1) cs) (Some i)
+-- the first place, from 0, that holds no digit
+abbrev pub first_bad : List ℕ → Option ℕ
+first_bad cs = position (λ c. is_none (digit_of c)) cs
 
 -- one number, the first digit the highest
 abbrev pub number_in : List ℕ → ℕ

@@ -1,2 +1,3 @@
 pub mod Digits
+pub mod Faults
 pub mod Words

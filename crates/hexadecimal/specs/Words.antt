@@ -16,14 +16,14 @@ unless_bad (Some i) answer = Err (NotADigit i)
 abbrev pub block_in : List ℕ → Result Block HexFault
 block_in text =
     cond (length text == 32)
-    (unless_bad (first_bad 0 text) (block (number_in text)))
+    (unless_bad (first_bad text) (block (number_in text)))
     (Err (WrongLength (length text)))
 
 -- an even count of digits
 abbrev pub bytes_in : List ℕ → Result (List ℕ) HexFault
 bytes_in text =
     cond (length text % 2 == 0)
-    (unless_bad (first_bad 0 text) (bytes_from text))
+    (unless_bad (first_bad text) (bytes_from text))
     (Err (WrongLength (length text)))
 
 -- a text without fault gives its bytes, or there is no memory for them; a fault of the text is told as it is

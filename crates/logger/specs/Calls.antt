@@ -1,5 +1,5 @@
 -- What the calls of a C program answer.
-use Rattle.std.specs.Prelude.{◌≡◌, ℕ, ◌+◌, ◌-◌, ◌*◌, ◌^◌, cond, ◌⊎◌, List, [], ◌∷◌, ◌++◌, length, drop, ℤ, pos, negsuc, Ok, Err, Result, bit_or, nat_lt}
+use Rattle.std.specs.Prelude.{◌≡◌, ℕ, ◌+◌, ◌-◌, ◌*◌, ◌^◌, cond, ◌⊎◌, List, ◌++◌, length, drop, ℤ, pos, negsuc, Ok, Err, Result, bit_or, nat_lt, fold}
 use Rattle.field.specs.Bytes.{bytes_of}
 use Rattle.field.specs.Kinds.{block, block_ring}
 use Rattle.field.specs.declared.kinds.Block.{Block}
@@ -24,6 +24,11 @@ abbrev pub status_of : Result (Unit {0}) Refusal → ℤ
 status_of (Ok x) = pos 0
 status_of (Err refusal) = refusal_status refusal
 
+-- the number that is answered, or that of the refusal
+abbrev pub number_status : Result ℕ Refusal → ℤ
+number_status (Ok number) = pos number
+number_status (Err refusal) = refusal_status refusal
+
 -- the room for the answer is looked at last
 abbrev pub seal_answer : List ℕ → List ℕ → List ℕ → Result (Unit {0}) Refusal
 seal_answer header body output = within_limits header body (cond (nat_lt (length output) 32) (Err OutputTooShort) (Ok tt))
@@ -44,7 +49,11 @@ Tried subkey proposal status =
     (Annihilates block_ring 128 (coefficients_of proposal) subkey × (status ≡ pos (ones_below 128 (coefficients_of proposal))))
     ⊎ ((Annihilates block_ring 128 (coefficients_of proposal) subkey → ⊥) × (status ≡ refusal_status DoesNotAnnihilate))
 
+-- the same, before it is a status
+abbrev pub Weighed : Block → Block → Result ℕ Refusal → Type 0
+Weighed subkey proposal (Ok weight) = Annihilates block_ring 128 (coefficients_of proposal) subkey × (weight ≡ ones_below 128 (coefficients_of proposal))
+Weighed subkey proposal (Err refusal) = (Annihilates block_ring 128 (coefficients_of proposal) subkey → ⊥) × (refusal ≡ DoesNotAnnihilate)
+
 -- bits, and every bit that stands in some block
 abbrev pub bits_from : ℕ → List Block → ℕ
-bits_from bits [] = bits
-bits_from bits (b ∷ bs) = bits_from (bit_or bits b.bits) bs
+bits_from bits scratch = fold (λ found b. bit_or found b.bits) bits scratch

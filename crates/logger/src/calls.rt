@@ -1,4 +1,5 @@
-// The calls of a C program.
+// The calls of a C program. C has no blocks, messages or results, so each block crosses as two numbers, each part by itself and an
+// answer as one number.
 ghost use Rattle.std.specs.Prelude.{◌≡◌};
 ghost use Rattle.tag.specs.Tags.{check_answer};
 ghost use Rattle.logger.specs.Calls.{Tried, halves, seal_answer, sealed_over, status_of};
@@ -8,6 +9,7 @@ use crate::seal::seal;
 use crate::status::status;
 use engine::Step;
 use field::{Block, Element};
+use message::Message;
 use tag::check_tag;
 
 // Writes hash and tag to the first 32 bytes of the output.
@@ -25,7 +27,7 @@ pub fn sonde_tag(
 {
     let subkey = Block::from_halves(subkey_high, subkey_low);
     let pad = Block::from_halves(pad_high, pad_low);
-    status(seal(subkey, pad, header, body, output))
+    status(seal(subkey, pad, Message { header, body }, output).map(|()| 0))
 }
 
 // Compares a given tag, of 4 to 16 bytes, with the beginning of the message's tag.
@@ -42,7 +44,8 @@ pub fn sonde_check_tag(
 {
     let mut engine = Step::new(Block::from_halves(subkey_high, subkey_low));
     let pad = Block::from_halves(pad_high, pad_low);
-    status(check_tag(&mut engine, pad, header, body, tag))
+    let message = Message { header, body };
+    status(check_tag(&mut engine, pad, message, tag).map(|()| 0))
 }
 
 // The number of ones of a polynomial that annihilates the subkey.
@@ -62,5 +65,5 @@ pub fn sonde_try_polynomial(
     if bits_in(&scratch) != 0 {
         return i32::MIN;
     }
-    answer
+    status(answer)
 }

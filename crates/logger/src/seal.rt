@@ -4,7 +4,7 @@ ghost use Rattle.logger.specs.Calls.{seal_answer, sealed_over};
 
 use engine::Step;
 use field::Block;
-use message::check_lengths;
+use message::Message;
 use refusal::Refusal;
 use tag::tag_message;
 
@@ -12,20 +12,20 @@ use tag::tag_message;
 pub(crate) fn seal(
     subkey: Block,
     pad: Block,
-    header: &[u8],
-    body: &[u8],
+    message: Message,
     output: &mut [u8],
 ) -> Result<(), Refusal>
-    ensures answer { result ≡ seal_answer header.now body.now output.old }
-    ensures output { output.new ≡ sealed_over subkey pad header.now body.now output.old }
+    ensures answer { result ≡ seal_answer message.entry.header.now message.entry.body.now output.old }
+    ensures output { output.new ≡ sealed_over subkey pad message.entry.header.now message.entry.body.now output.old }
 {
-    check_lengths(header, body)?;
+    message.check_lengths()?;
     if output.len() < 32 {
         return Err(Refusal::OutputTooShort);
     }
     let mut engine = Step::new(subkey);
-    let tagged = tag_message(&mut engine, pad, header, body)?;
-    output[..16].copy_from_slice(&tagged.hash.to_bytes());
-    output[16..32].copy_from_slice(&tagged.tag.to_bytes());
+    let digest = tag_message(&mut engine, pad, message)?;
+    // Two ranges say which bytes are written; halves of a lent chunk would say the same in one line more.
+    output[..16].copy_from_slice(&digest.hash.to_bytes());
+    output[16..32].copy_from_slice(&digest.tag.to_bytes());
     Ok(())
 }

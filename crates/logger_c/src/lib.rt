@@ -1,4 +1,5 @@
-// The logger's calls as a C program links them.
+// The logger's calls as a C program links them. Each only hands on: the C names and the C convention are exported here alone, so
+// that `logger` stays a plain library.
 #![tactic(auto)]
 
 ghost use Rattle.std.specs.Prelude.{◌≡◌};

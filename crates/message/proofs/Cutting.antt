@@ -3,7 +3,7 @@ use Rattle.std.proofs.Common.{◌≡◌, ℕ, zero, suc, ◌+◌, ◌<◌, ◌�
 use native.Mathlib.Decide.{dec_le}
 use Rattle.std.proofs.lemmas.List.{take_at, drop_at, take_all, drop_all, nil_from_length}
 use Rattle.field.specs.Bytes.{block_of}
-use Rattle.message.specs.Blocks.{blocks_taken, filled, cut, blocks}
+use Rattle.message.specs.Blocks.{blocks_taken, filled, cut, blocks, block_of_lengths, block_list}
 
 pub length_cut : (n : ℕ) (bytes : List ℕ) → length (cut n bytes) ≡ n
 length_cut zero bytes = refl
@@ -12,6 +12,13 @@ length_cut (suc n) bytes = ap suc (length_cut n (drop 16 bytes))
 pub length_blocks : (bytes : List ℕ) → length (blocks bytes) ≡ blocks_taken (length bytes)
 unfolding blocks
 length_blocks bytes = length_cut (blocks_taken (length bytes)) bytes
+
+-- both parts' blocks and the length block
+pub length_block_list : (header body : List ℕ) → blocks_taken (length header) + blocks_taken (length body) + 1 ≡ length (block_list header body)
+length_block_list header body =
+    let whole = length-append (blocks header) (blocks body ++ (block_of_lengths header body ∷ [])) in
+    let after = length-append (blocks body) (block_of_lengths header body ∷ []) in
+    omega (arith, length_blocks header, length_blocks body, whole, after)
 
 pub blocks_none : (bytes : List ℕ) → length bytes ≡ 0 → blocks bytes ≡ []
 unfolding blocks

@@ -1,10 +1,15 @@
--- How long each part may be, and which refusal says that it is longer.
-use Rattle.std.specs.Prelude.{ℕ, cond, List, length, Err, Result, nat_lt}
+-- The name of each part, how long it may be, and which refusal says that it is longer.
+use Rattle.std.specs.Prelude.{ℕ, cond, List, length, Err, Result, nat_lt, codes}
 use Rattle.refusal.specs.declared.Refusal.{Refusal}
 use Rattle.refusal.specs.declared.Refusal.TheVariants.{HeaderTooLong, BodyTooLong}
-pub use Rattle.message.specs.Answer.{header_limit, body_limit}
 use Rattle.message.specs.declared.part.Part.{Part}
 use Rattle.message.specs.declared.part.Part.TheVariants.{Header, Body}
+
+abbrev pub header_limit : ℕ
+header_limit = 65535
+
+abbrev pub body_limit : ℕ
+body_limit = 68719476704
 
 abbrev pub limit_of : Part → ℕ
 limit_of Header = header_limit
@@ -14,9 +19,14 @@ abbrev pub refusal_of_part : Part → Refusal
 refusal_of_part Header = HeaderTooLong
 refusal_of_part Body = BodyTooLong
 
+abbrev pub name_of : Part → List ℕ
+name_of Header = codes "header"
+name_of Body = codes "body"
+
+-- an answer for one part within its limit
+abbrev pub within_limit : {X : Type 0} → Part → List ℕ → Result X Refusal → Result X Refusal
+within_limit part bytes answer = cond (nat_lt (limit_of part) (length bytes)) (Err (refusal_of_part part)) answer
+
 -- an answer for parts within their limits; the header's limit is looked at first
 abbrev pub within_limits : {X : Type 0} → List ℕ → List ℕ → Result X Refusal → Result X Refusal
-within_limits header body answer =
-    cond (nat_lt header_limit (length header)) (Err HeaderTooLong)
-    (cond (nat_lt body_limit (length body)) (Err BodyTooLong)
-    answer)
+within_limits header body answer = within_limit Header header (within_limit Body body answer)

@@ -7,6 +7,6 @@ mod finder;
 mod part;
 
 pub use absorb::{block_of, block_of_byte_counts};
-pub use digest::{Digest, hash_and_tag};
-pub use finder::{Found, find_block};
-pub use part::{Part, check_lengths};
+pub use digest::Digest;
+pub use finder::Found;
+pub use part::{Message, Part};

@@ -1,8 +1,15 @@
-// The two parts of a message, each with its limit.
-ghost use Rattle.std.specs.Prelude.{◌≡◌, Ok};
-ghost use Rattle.message.specs.Limits.{limit_of, refusal_of_part, within_limits};
+// A message, and its two parts, each with its limit.
+ghost use Rattle.std.specs.Prelude.{◌≡◌, IfOk, Some};
+ghost use Rattle.message.specs.Blocks.{AreBytes};
+ghost use Rattle.message.specs.Limits.{limit_of, name_of, refusal_of_part, within_limit, within_limits};
 
 use refusal::Refusal;
+use std::fmt;
+
+// The largest header and the largest body, in bytes.
+const HEADER_LIMIT: u64 = 65_535;
+
+const BODY_LIMIT: u64 = 68_719_476_704;
 
 #[derive(Clone, Copy, PartialEq, Eq, Debug)]
 pub enum Part {
@@ -16,8 +23,8 @@ impl Part {
         ensures { result ≡ limit_of self }
     {
         match self {
-            Part::Header => 65_535,
-            Part::Body => 68_719_476_704,
+            Part::Header => HEADER_LIMIT,
+            Part::Body => BODY_LIMIT,
         }
     }
 
@@ -29,17 +36,45 @@ impl Part {
             Part::Body => Refusal::BodyTooLong,
         }
     }
+
+    // Refuses a part over its limit.
+    fn check_length(self, bytes: &[u8]) -> Result<(), Refusal>
+        ensures answer { result ≡ within_limit self bytes.now (Ok tt) }
+        ensures bytes { AreBytes bytes.now }
+    {
+        if bytes.len() as u64 > self.limit() {
+            return Err(self.too_long());
+        }
+        Ok(())
+    }
 }
 
-// Refuses a header over its limit, and then a body over its limit.
-pub fn check_lengths(header: &[u8], body: &[u8]) -> Result<(), Refusal>
-    ensures { result ≡ within_limits header.now body.now (Ok tt) }
-{
-    if header.len() as u64 > Part::Header.limit() {
-        return Err(Part::Header.too_long());
+impl fmt::Display for Part {
+    ghost output = { λ part. Some (name_of part) };
+
+    fn fmt<W: fmt::Write>(&self, f: &mut fmt::Formatter<W>) -> fmt::Result {
+        f.write_str(match self {
+            Part::Header => "header",
+            Part::Body => "body",
+        })
     }
-    if body.len() as u64 > Part::Body.limit() {
-        return Err(Part::Body.too_long());
+}
+
+// A header and a body, hashed together.
+#[derive(Clone, Copy)]
+pub struct Message<'a> {
+    pub header: &'a [u8],
+    pub body: &'a [u8],
+}
+
+impl Message<'_> {
+    // Refuses a header over its limit, and then a body over its limit. Both hold bytes, which a proof knows of a slice that is
+    // passed and not of one in a struct.
+    pub fn check_lengths(self) -> Result<(), Refusal>
+        ensures answer { result ≡ within_limits self.entry.header.now self.entry.body.now (Ok tt) }
+        ensures bytes { IfOk result (λ _. AreBytes self.entry.header.now × AreBytes self.entry.body.now) }
+    {
+        Part::Header.check_length(self.header)?;
+        Part::Body.check_length(self.body)
     }
-    Ok(())
 }

@@ -2,6 +2,5 @@ pub mod Coefficients
 pub mod Values
 pub mod Conjugates
 pub mod Fill
-pub mod Raising
 pub mod Reading
 pub mod Made

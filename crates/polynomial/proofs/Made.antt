@@ -1,11 +1,14 @@
 -- What the maker answers annihilates the subkey; what it refuses is seen below the highest coefficient.
-use Rattle.std.proofs.Common.{◌≡◌, ℕ, zero, suc, ◌+◌, ◌<◌, Bool, List, [], ◌∷◌, ◌++◌, length, sym, ap, ◌∙◌, subst, zero-add, arith, length-append}
+use Rattle.std.proofs.Common.{◌≡◌, ℕ, zero, suc, ◌+◌, ◌<◌, ◌≤◌, Bool, List, [], ◌∷◌, ◌++◌, length, sym, refl, ap, ◌∙◌, subst, inr, Option, Some, None, MatchOption, IfOk, zero-add, arith, length-append}
+use Rattle.std.specs.Option.{ok_or}
 use Rattle.std.proofs.lemmas.List.FromFn.{length-map-range_with_len}
 use Rattle.std.proofs.lemmas.List.{get_or_append_left}
 use Rattle.field.specs.Ring.{CommutativeRing}
 use Rattle.field.specs.Evaluation.{power}
 use Rattle.field.specs.declared.element.Element.{Ghosts}
 use Rattle.polynomial.specs.Polynomials.{value_at, element, stored, Annihilates, conjugates, SomeNeither}
+use Rattle.refusal.specs.declared.Refusal.TheVariants.{NotBinary}
+use Rattle.polynomial.specs.Outcomes.{Made}
 use Rattle.polynomial.specs.Steps.{lower}
 use Rattle.polynomial.proofs.Conjugates.{conjugates_lower}
 use Rattle.polynomial.proofs.Values.{value_push, one_product, conjugates_value, factors_vanish}
@@ -36,3 +39,20 @@ neither_above m xs ys (k, within, not-zero, not-one) =
 pub neither_conjugates : {K : Type 0} (m : Ghosts K) (r : K) (n : ℕ) → SomeNeither m (lower m r n) → SomeNeither m (conjugates m r n)
 neither_conjugates m r n some =
     subst (λ xs. SomeNeither m xs) (sym (conjugates_lower m r n)) (neither_above m (lower m r n) (m.one ∷ []) some)
+
+-- ---- what is answered for what is read
+
+module _ {K : Type 0} (m : Ghosts K) (width : ℕ) (bits : K → ℕ → Bool) (r : K) where
+  -- the proposal that is the product, or none where a coefficient is neither zero nor one
+  abbrev pub Found : Option K → Type 0
+  Found found = MatchOption found (SomeNeither m (lower m r width)) (λ p. stored m width (bits p) ≡ lower m r width)
+
+  pub found_made : (room : ℕ) (found : Option K) → width ≤ room → Found found → Made m width room bits r (ok_or found NotBinary)
+  found_made room (Some p) wide same = (wide, ap (λ (cs : List K). cs ++ (m.one ∷ [])) same ∙ sym (conjugates_lower m r width))
+  found_made room None wide some = inr (refl, wide, neither_conjugates m r width some)
+
+  pub found_annihilates : (laws : CommutativeRing m.zero m.one m.sum m.product) → ((x : K) → m.sum x x ≡ m.zero) → zero < width
+      → (found : Option K) → Found found → IfOk (ok_or found NotBinary) (λ p. Annihilates m width (bits p) r)
+  found_annihilates laws even some (Some p) same =
+      made_annihilates m laws even width (bits p) r some (ap (λ (cs : List K). cs ++ (m.one ∷ [])) same ∙ sym (conjugates_lower m r width))
+  found_annihilates laws even some None none = tt

@@ -5,6 +5,9 @@ use Rattle.refusal.specs.declared.Refusal.{Refusal}
 use Rattle.refusal.specs.declared.Refusal.TheVariants.{DoesNotAnnihilate, NotBinary, ScratchTooShort}
 use Rattle.polynomial.specs.Bits.{ones_below}
 use Rattle.polynomial.specs.Polynomials.{stored, Annihilates, conjugates, SomeNeither, wiped}
+use Rattle.polynomial.specs.declared.accepted.Accepted.{Accepted}
+use Rattle.polynomial.specs.declared.binary.Binary as binary
+use Rattle.polynomial.specs.declared.trial.Trial.{Trial}
 
 -- A scratch with room has its first elements zeroed; a shorter one is not touched.
 abbrev pub scratch_after : {K : Type 0} → Ghosts K → ℕ → List K → List K
@@ -16,13 +19,23 @@ module _ {K : Type 0} (m : Ghosts K) (width : ℕ) (room : ℕ) where
   Refused refusal named cause =
       ((refusal ≡ ScratchTooShort) × (room < width)) ⊎ ((refusal ≡ named) × (width ≤ room) × cause)
 
-  -- A trial accepts exactly when there is room and the proposal annihilates; it answers the number of ones.
-  abbrev pub Tried : (ℕ → Bool) → K → Result ℕ Refusal → Type 0
-  Tried bits subkey (Ok weight) = (width ≤ room) × Annihilates m width bits subkey × (weight ≡ ones_below width bits)
-  Tried bits subkey (Err refusal) = Refused refusal DoesNotAnnihilate (Annihilates m width bits subkey → ⊥)
-
   -- The maker answers the product of the conjugate factors, whose highest coefficient is not stored, exactly when
   -- there is room and every coefficient is zero or one.
   abbrev pub Made : (K → ℕ → Bool) → K → Result K Refusal → Type 0
   Made bits subkey (Ok proposal) = (width ≤ room) × (stored m width (bits proposal) ++ (m.one ∷ []) ≡ conjugates m subkey width)
   Made bits subkey (Err refusal) = Refused refusal NotBinary (SomeNeither m (conjugates m subkey width))
+
+module _ {K : Type 0} (b : binary.Ghosts K) (m : Ghosts K) (room : ℕ) (subkey : K) where
+  -- Accepted is this proposal, for this subkey, with its ones counted; refused exactly for want of room or where it does not annihilate.
+  abbrev pub PolynomialTried : K → Result (Trial K b m) Refusal → Type 0
+  PolynomialTried proposal (Ok trial) =
+      (b.width ≤ room) × Annihilates m b.width (b.bits proposal) subkey
+      × (trial.polynomial.subkey ≡ subkey) × (trial.polynomial.coefficients ≡ proposal)
+      × (trial.weight ≡ ones_below b.width (b.bits proposal))
+  PolynomialTried proposal (Err refusal) =
+      Refused m b.width room refusal DoesNotAnnihilate (Annihilates m b.width (b.bits proposal) subkey → ⊥)
+
+  -- the maker's polynomial, accepted for this subkey; refused as the maker refuses
+  abbrev pub AcceptedMade : Result (Accepted K b m) Refusal → Type 0
+  AcceptedMade (Ok accepted) = (accepted.subkey ≡ subkey) × Made m b.width room b.bits subkey (Ok accepted.coefficients)
+  AcceptedMade (Err refusal) = Made m b.width room b.bits subkey (Err refusal)

@@ -14,7 +14,7 @@ pub trait Binary: Element + Copy {
     fn width() -> usize
         ensures { result ≡ width };
 
-    // The coefficient of index k, false past the width.
+    // The coefficient of index k, false past the width. Each kind writes this and the next: its order of bits is its own.
     fn bit(self, k: usize) -> bool
         ensures { result ≡ bits self k };
 

@@ -11,6 +11,5 @@ mod trial;
 
 pub use accepted::Accepted;
 pub use binary::Binary;
-pub use blocks::{Trial, try_polynomial};
 pub use maker::make_polynomial;
-pub use trial::try_proposal;
+pub use trial::{Trial, try_polynomial};

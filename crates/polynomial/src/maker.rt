@@ -1,50 +1,48 @@
 // The maker: the product of t + H^(2^i) over all i, which H annihilates.
-ghost use Rattle.std.specs.Prelude.{◌≡◌, ℕ, ◌+◌, ◌<◌, ◌≤◌, cond, List, ◌++◌, length, take, drop, IfOk, MatchOption};
-ghost use Rattle.polynomial.specs.Outcomes.{Made, scratch_after};
+ghost use Rattle.std.specs.Prelude.{◌≡◌, ℕ, ◌+◌, ◌<◌, ◌≤◌, cond, List, [], ◌∷◌, ◌++◌, length, IfOk, MatchOption};
+ghost use Rattle.polynomial.specs.Outcomes.{AcceptedMade, Made, scratch_after};
 ghost use Rattle.polynomial.specs.Polynomials.{value_at, stored, Annihilates, conjugates, factors_at, SomeNeither};
 ghost use Rattle.polynomial.specs.Steps.{raised, lower};
 
+use crate::accepted::Accepted;
 use crate::binary::Binary;
-use crate::scratch::Wipe;
+use crate::scratch::Scratch;
 use field::Element;
 use refusal::Refusal;
 
-// Multiplies by t + root: the first `degree` elements are the coefficients below the highest, which is one and not stored.
-fn multiply<K: Binary>(scratch: &mut [K], degree: usize, root: K)
-    requires { degree < length scratch.old }
-    ensures { scratch.new ≡ raised K.Element root K.Element.zero (take degree scratch.old) K.Element.one ++ drop (degree + 1) scratch.old }
+// Multiplies by t + root, and answers the coefficient that is new. The highest, which is one, is not stored.
+fn multiply<E: Element + Copy>(coefficients: &mut [E], root: E) -> E
+    ensures { coefficients.new ++ (result ∷ []) ≡ raised E.Element root E.Element.zero coefficients.old E.Element.one }
 {
-    let mut below = K::zero();
-    for j in 0..degree {
-        let here = scratch[j];
-        scratch[j] = below.plus(root.times(here));
+    let mut below = E::zero();
+    for coefficient in coefficients.iter_mut() {
+        let here = *coefficient;
+        *coefficient = below.plus(root.times(here));
         below = here;
     }
-    scratch[degree] = below.plus(root);
+    below.plus(root)
 }
 
-// Writes the coefficients of the whole product but the highest.
-fn expand<K: Binary>(scratch: &mut [K], subkey: K)
-    requires { K.Binary.width ≤ length scratch.old }
-    ensures { scratch.new ≡ lower K.Element subkey K.Binary.width ++ drop K.Binary.width scratch.old }
+// Writes the coefficients of the product of as many factors as there is room for, but the highest.
+fn expand<E: Element + Copy>(coefficients: &mut [E], subkey: E)
+    ensures { coefficients.new ≡ lower E.Element subkey (length coefficients.old) }
 {
     let mut root = subkey;
-    for i in 0..K::width() {
-        multiply(scratch, i, root);
+    for degree in 0..coefficients.len() {
+        coefficients[degree] = multiply(&mut coefficients[..degree], root);
         root = root.times(root);
     }
 }
 
 // The proposal with these coefficients, or none where one of them is neither zero nor one.
 fn read_bits<K: Binary>(coefficients: &[K]) -> Option<K>
-    requires { K.Binary.width ≤ length coefficients.now }
-    ensures { MatchOption result (SomeNeither K.Element (take K.Binary.width coefficients.now)) (λ p. stored K.Element K.Binary.width (K.Binary.bits p) ≡ take K.Binary.width coefficients.now) }
+    requires { length coefficients.now ≤ K.Binary.width }
+    ensures { MatchOption result (SomeNeither K.Element coefficients.now) (λ p. stored K.Element (length coefficients.now) (K.Binary.bits p) ≡ coefficients.now) }
 {
     let mut proposal = K::zero();
-    for k in 0..K::width() {
-        let here = coefficients[k];
-        if !here.is_zero() {
-            if !here.plus(K::one()).is_zero() {
+    for (k, coefficient) in coefficients.iter().enumerate() {
+        if !coefficient.is_zero() {
+            if !coefficient.plus(K::one()).is_zero() {
                 return None;
             }
             proposal = proposal.flip(k);
@@ -53,14 +51,16 @@ fn read_bits<K: Binary>(coefficients: &[K]) -> Option<K>
     Some(proposal)
 }
 
-// Expands the product and reads it.
-fn find_bits<K: Binary>(scratch: &mut [K], subkey: K) -> Option<K>
-    requires { K.Binary.width ≤ length scratch.old }
-    ensures value { MatchOption result (SomeNeither K.Element (lower K.Element subkey K.Binary.width)) (λ p. stored K.Element K.Binary.width (K.Binary.bits p) ≡ lower K.Element subkey K.Binary.width) }
-    ensures rest { drop K.Binary.width scratch.new ≡ drop K.Binary.width scratch.old }
-{
-    expand(scratch, subkey);
-    read_bits(scratch)
+impl<K: Binary> Scratch<'_, K> {
+    // Expands the product in the scratch and reads it.
+    fn find_bits(&mut self, subkey: K) -> Option<K>
+        ensures same_reference { self.new.elements.ghost_name ≡ self.old.elements.ghost_name }
+        ensures value { MatchOption result (SomeNeither K.Element (lower K.Element subkey K.Binary.width)) (λ p. stored K.Element K.Binary.width (K.Binary.bits p) ≡ lower K.Element subkey K.Binary.width) }
+    {
+        let coefficients = &mut *self.elements;
+        expand(coefficients, subkey);
+        read_bits(coefficients)
+    }
 }
 
 // The polynomial of all conjugates of the subkey, which annihilates it.
@@ -73,9 +73,21 @@ pub fn make_polynomial<K: Binary>(subkey: K, scratch: &mut [K]) -> Result<K, Ref
     if scratch.len() < K::width() {
         return Err(Refusal::ScratchTooShort);
     }
-    let guard = Wipe { scratch };
-    match find_bits(guard.scratch, subkey) {
-        Some(proposal) => Ok(proposal),
-        None => Err(Refusal::NotBinary),
+    let (elements, _) = scratch.split_at_mut(K::width());
+    let mut scratch = Scratch { elements };
+    scratch.find_bits(subkey).ok_or(Refusal::NotBinary)
+}
+
+impl<K: Binary> Accepted<K> {
+    // The maker's polynomial. It annihilates the subkey, so that no trial has to follow.
+    pub fn make(subkey: K, scratch: &mut [K]) -> Result<Accepted<K>, Refusal>
+        ensures value { AcceptedMade K.Binary.own K.Element (length scratch.old) subkey result }
+        ensures scratch { scratch.new ≡ scratch_after K.Element K.Binary.width scratch.old }
+    {
+        let coefficients = make_polynomial(subkey, scratch)?;
+        Ok(Accepted {
+            subkey,
+            coefficients,
+        })
     }
 }

@@ -1,31 +1,31 @@
 // The scratch that a trial and the maker borrow.
-ghost use Rattle.std.specs.Prelude.{◌≡◌, ◌≤◌, length};
-ghost use Rattle.polynomial.specs.Polynomials.{wiped};
+ghost use Rattle.std.specs.Prelude.{◌≡◌, length, replicate};
 
 use crate::binary::Binary;
 use field::Element;
 
-// Zeroes as many elements as a polynomial has coefficients.
-fn clear<K: Binary>(scratch: &mut [K])
-    requires { K.Binary.width ≤ length scratch.old }
-    ensures { scratch.new ≡ wiped K.Element K.Binary.width scratch.old }
+// A lent scratch: as many elements as a polynomial has coefficients, zeroed when it goes, on whichever way the call ends.
+// The two calls that take one look at its length themselves: tried, but no borrow is proved through a constructor that
+// answers a `Result`.
+pub(crate) struct Scratch<'a, K: Binary> {
+    pub(crate) elements: &'a mut [K],
+    ghost whole: { length elements.now ≡ K.Binary.width },
+}
+
+// Not `fill`: it asks for a clone that cannot fail, and nothing says so of every `Copy` kind.
+fn clear<E: Element + Copy>(elements: &mut [E])
+    ensures { elements.new ≡ replicate (length elements.old) E.Element.zero }
 {
-    for i in 0..K::width() {
-        scratch[i] = K::zero();
+    for element in elements.iter_mut() {
+        *element = E::zero();
     }
 }
 
-// Clears a lent scratch when it goes, on whichever way the call ends.
-pub(crate) struct Wipe<'a, K: Binary> {
-    pub(crate) scratch: &'a mut [K],
-}
-
-impl<K: Binary> Drop for Wipe<'_, K> {
+impl<K: Binary> Drop for Scratch<'_, K> {
     fn drop(self)
-        requires { K.Binary.width ≤ length self.scratch.now }
-        ensures { self.exit.0.now ≡ wiped K.Element K.Binary.width self.entry.scratch.now }
+        ensures { self.exit.0.now ≡ replicate K.Binary.width K.Element.zero }
     {
-        let Wipe { scratch } = self;
-        clear(scratch);
+        let Scratch { elements } = self;
+        clear(elements);
     }
 }

@@ -1,24 +1,24 @@
 // The trial of a proposal: does it annihilate the subkey?
-ghost use Rattle.std.specs.Prelude.{◌≡◌, ◌≤◌, cond, ◌++◌, map, length, take, drop};
+ghost use Rattle.std.specs.Prelude.{◌≡◌, map, length};
 ghost use Rattle.std.specs.List.{range_with_len};
 ghost use Rattle.field.specs.Evaluation.{power};
-ghost use Rattle.polynomial.specs.Outcomes.{Tried, scratch_after};
+ghost use Rattle.polynomial.specs.Outcomes.{PolynomialTried, scratch_after};
 ghost use Rattle.polynomial.specs.Polynomials.{value_at, stored};
 
+use crate::accepted::Accepted;
 use crate::binary::Binary;
-use crate::scratch::Wipe;
+use crate::scratch::Scratch;
 use field::Element;
 use refusal::Refusal;
 
-// Writes the powers of the key from the zeroth on, one for each coefficient, and answers the next.
-fn fill_powers<K: Binary>(scratch: &mut [K], key: K) -> K
-    requires { K.Binary.width ≤ length scratch.old }
-    ensures value { result ≡ power K.Element key K.Binary.width }
-    ensures scratch { scratch.new ≡ map (power K.Element key) (range_with_len 0 K.Binary.width) ++ drop K.Binary.width scratch.old }
+// Writes the powers of the key from the zeroth on, and answers the next.
+fn fill_powers<E: Element + Copy>(powers: &mut [E], key: E) -> E
+    ensures value { result ≡ power E.Element key (length powers.old) }
+    ensures powers { powers.new ≡ map (power E.Element key) (range_with_len 0 (length powers.old)) }
 {
-    let mut next = K::one();
-    for k in 0..K::width() {
-        scratch[k] = next;
+    let mut next = E::one();
+    for power in powers.iter_mut() {
+        *power = next;
         next = key.times(next);
     }
     next
@@ -26,40 +26,57 @@ fn fill_powers<K: Binary>(scratch: &mut [K], key: K) -> K
 
 // The sum of the powers where the proposal has a one: its value at the key, but for the highest term.
 fn sum_powers<K: Binary>(powers: &[K], proposal: K) -> K
-    requires { K.Binary.width ≤ length powers.now }
-    ensures { (key : K) → take K.Binary.width powers.now ≡ map (power K.Element key) (range_with_len 0 K.Binary.width) → result ≡ value_at K.Element key (stored K.Element K.Binary.width (K.Binary.bits proposal)) }
+    ensures { (key : K) → powers.now ≡ map (power K.Element key) (range_with_len 0 (length powers.now)) → result ≡ value_at K.Element key (stored K.Element (length powers.now) (K.Binary.bits proposal)) }
 {
     let mut sum = K::zero();
-    for k in 0..K::width() {
+    for (k, power) in powers.iter().enumerate() {
         if proposal.bit(k) {
-            sum = sum.plus(powers[k]);
+            sum = sum.plus(*power);
         }
     }
     sum
 }
 
-// The proposed polynomial's value at the key, by powers that are written to the scratch.
-fn value_at<K: Binary>(scratch: &mut [K], key: K, proposal: K) -> K
-    requires { K.Binary.width ≤ length scratch.old }
-    ensures value { result ≡ K.Element.sum (power K.Element key K.Binary.width) (value_at K.Element key (stored K.Element K.Binary.width (K.Binary.bits proposal))) }
-    ensures rest { drop K.Binary.width scratch.new ≡ drop K.Binary.width scratch.old }
-{
-    let highest = fill_powers(scratch, key);
-    highest.plus(sum_powers(scratch, proposal))
+impl<K: Binary> Scratch<'_, K> {
+    // The proposed polynomial's value at the key, by powers that are written to the scratch.
+    fn value_at(&mut self, key: K, proposal: K) -> K
+        ensures same_reference { self.new.elements.ghost_name ≡ self.old.elements.ghost_name }
+        ensures value { result ≡ K.Element.sum (power K.Element key K.Binary.width) (value_at K.Element key (stored K.Element K.Binary.width (K.Binary.bits proposal))) }
+    {
+        let powers = &mut *self.elements;
+        let highest = fill_powers(powers, key);
+        highest.plus(sum_powers(powers, proposal))
+    }
 }
 
-// Accepts a proposal exactly when it annihilates the subkey, and answers how many of its coefficients are one.
-pub fn try_proposal<K: Binary>(subkey: K, proposal: K, scratch: &mut [K]) -> Result<u32, Refusal>
-    ensures value { Tried K.Element K.Binary.width (length scratch.old) (K.Binary.bits proposal) subkey result }
+// An accepted polynomial and how many of its stored coefficients are one.
+#[derive(Clone, Copy)]
+pub struct Trial<K: Binary> {
+    pub polynomial: Accepted<K>,
+    pub weight: u32,
+}
+
+// Accepts a proposal exactly when it annihilates the subkey. The front of the scratch is wiped.
+pub fn try_polynomial<K: Binary>(
+    subkey: K,
+    proposal: K,
+    scratch: &mut [K],
+) -> Result<Trial<K>, Refusal>
+    ensures value { PolynomialTried K.Binary.own K.Element (length scratch.old) subkey proposal result }
     ensures scratch { scratch.new ≡ scratch_after K.Element K.Binary.width scratch.old }
 {
     if scratch.len() < K::width() {
         return Err(Refusal::ScratchTooShort);
     }
-    let guard = Wipe { scratch };
-    let value = value_at(guard.scratch, subkey, proposal);
-    if !value.is_zero() {
+    let (elements, _) = scratch.split_at_mut(K::width());
+    let mut scratch = Scratch { elements };
+    if !scratch.value_at(subkey, proposal).is_zero() {
         return Err(Refusal::DoesNotAnnihilate);
     }
-    Ok(proposal.weight())
+    let polynomial = Accepted {
+        subkey,
+        coefficients: proposal,
+    };
+    let weight = proposal.weight();
+    Ok(Trial { polynomial, weight })
 }

@@ -7,8 +7,11 @@ ghost use Rattle.message.specs.Answer.{answer};
 ghost use Rattle.readings.specs.Table.{Table, expected, first, hash_in};
 
 use field::{Block, Element, Nibble, Word, evaluate};
-use message::hash_and_tag;
+use message::Message;
 use refusal::Refusal;
+
+// The key of the words.
+const KEY: u32 = 16_807;
 
 #[derive(Clone, Copy)]
 pub struct Readings {
@@ -23,37 +26,48 @@ pub struct Readings {
     pub header_only: Block,
 }
 
-// 0110·0011, and 0001, 0001 at the key 0010.
-fn nibble_readings() -> (Nibble, Nibble)
-    ensures { result ≡ (nibble 0b1010, nibble 0b0110) }
+// 0110·0011.
+fn nibble_product() -> Nibble
+    ensures { result ≡ nibble 0b1010 }
 {
-    let one = Nibble::new(0b0001);
-    let product = Nibble::new(0b0110).times(Nibble::new(0b0011));
-    (product, evaluate(Nibble::new(0b0010), &[one, one]))
+    Nibble::new(0b0110).times(Nibble::new(0b0011))
 }
 
-// 1, and then 1, 0, at the key 16,807.
-fn word_readings() -> (Word, Word)
-    ensures { result ≡ (word 16807, word 282475249) }
+// 0001, 0001 at the key 0010.
+fn nibble_value() -> Nibble
+    ensures { result ≡ nibble 0b0110 }
 {
-    let key = Word::new(16_807);
-    let single = evaluate(key, &[Word::new(1)]);
-    (single, evaluate(key, &[Word::new(1), Word::new(0)]))
+    let one = Nibble::new(0b0001);
+    evaluate(Nibble::new(0b0010), &[one, one])
+}
+
+// 1 at the key.
+fn word_one() -> Word
+    ensures { result ≡ word 16807 }
+{
+    evaluate(Word::new(KEY), &[Word::new(1)])
+}
+
+// 1, 0 at the key.
+fn word_two() -> Word
+    ensures { result ≡ word 282475249 }
+{
+    evaluate(Word::new(KEY), &[Word::new(1), Word::new(0)])
 }
 
 // 00..00 01 at the key 40 00..00.
-fn block_reading() -> Block
+fn block_value() -> Block
     ensures { result ≡ first 0xE1 }
 {
     evaluate(Block::new(0x40 << 120), &[Block::new(1)])
 }
 
 // The hash at the subkey 80 00..00, which is one.
-fn hash_at_one(header: &[u8], body: &[u8]) -> Result<Block, Refusal>
-    ensures { result ≡ hash_in (answer (first 0x80) (first 0x80) header.now body.now) }
+fn hash_at_one(message: Message) -> Result<Block, Refusal>
+    ensures { result ≡ hash_in (answer (first 0x80) (first 0x80) message.entry.header.now message.entry.body.now) }
 {
     let one = Block::one();
-    Ok(hash_and_tag(one, one, header, body)?.hash)
+    Ok(message.hash_and_tag(one, one)?.hash)
 }
 
 // The table; the empty message's rows hold at any subkey and under any pad.
@@ -61,18 +75,26 @@ pub fn take_readings(subkey: Block, pad: Block) -> Result<Readings, Refusal>
     ensures table { Table }
     ensures value { result ≡ Ok (expected pad) }
 {
-    let (nibble_product, nibble_value) = nibble_readings();
-    let (word_one, word_two) = word_readings();
-    let empty = hash_and_tag(subkey, pad, &[], &[])?;
+    let empty = Message {
+        header: &[],
+        body: &[],
+    };
+    let digest = empty.hash_and_tag(subkey, pad)?;
     Ok(Readings {
-        nibble_product,
-        nibble_value,
-        word_one,
-        word_two,
-        block_value: block_reading(),
-        empty_hash: empty.hash,
-        empty_tag: empty.tag,
-        body_only: hash_at_one(&[], &[0x80])?,
-        header_only: hash_at_one(&[0x80], &[])?,
+        nibble_product: nibble_product(),
+        nibble_value: nibble_value(),
+        word_one: word_one(),
+        word_two: word_two(),
+        block_value: block_value(),
+        empty_hash: digest.hash,
+        empty_tag: digest.tag,
+        body_only: hash_at_one(Message {
+            header: &[],
+            body: &[0x80],
+        })?,
+        header_only: hash_at_one(Message {
+            header: &[0x80],
+            body: &[],
+        })?,
     })
 }

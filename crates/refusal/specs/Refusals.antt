@@ -1,5 +1,5 @@
--- The number and the text of each refusal.
-use Rattle.std.specs.Prelude.{ℕ, List, Some, None, codes, Option}
+-- The number, the text and the place of each refusal, and the line that tells it.
+use Rattle.std.specs.Prelude.{ℕ, List, [], ◌++◌, Some, None, codes, decimal, Option}
 use Rattle.refusal.specs.declared.Refusal.{Refusal}
 use Rattle.refusal.specs.declared.Refusal.TheVariants.{HeaderTooLong, BodyTooLong, DoesNotAnnihilate, NotBinary, ScratchTooShort, NotReady, TagLength, TagDiffers, FileSize, WrongCheck, WrongNumber, WrongForm, WrongOrder, NoEnd, OutputTooShort}
 
@@ -54,3 +54,13 @@ place_of (WrongForm block) = Some block
 place_of (WrongOrder block) = Some block
 place_of (NoEnd blocks) = Some blocks
 place_of OutputTooShort = None
+
+-- the place in words
+abbrev pub place_text : Refusal → Option ℕ → List ℕ
+place_text (NoEnd blocks) place = codes " after " ++ decimal blocks ++ codes " blocks"
+place_text _ (Some block) = codes " at block " ++ decimal block
+place_text _ None = []
+
+abbrev pub line_of : Refusal → List ℕ
+line_of refusal =
+    codes "refused " ++ decimal (number_of refusal) ++ place_text refusal (place_of refusal) ++ codes ": " ++ text_of refusal

@@ -1,8 +1,11 @@
 // Why a call says no: one case for each cause, with its number and its text.
 #![tactic(auto)]
 
-ghost use Rattle.std.specs.Prelude.{◌≡◌};
-ghost use Rattle.refusal.specs.Refusals.{number_of, place_of, text_of};
+ghost use Rattle.std.specs.Prelude.{◌≡◌, Some};
+ghost use Rattle.refusal.specs.Refusals.{line_of, number_of, place_of, text_of};
+
+use std::error::Error;
+use std::fmt;
 
 #[derive(Clone, Copy, PartialEq, Eq, Debug)]
 pub enum Refusal {
@@ -52,11 +55,11 @@ impl Refusal {
             Refusal::TagLength => 7,
             Refusal::TagDiffers => 8,
             Refusal::FileSize => 9,
-            Refusal::WrongCheck { block: _ } => 10,
-            Refusal::WrongNumber { block: _ } => 11,
-            Refusal::WrongForm { block: _ } => 12,
-            Refusal::WrongOrder { block: _ } => 13,
-            Refusal::NoEnd { blocks: _ } => 14,
+            Refusal::WrongCheck { .. } => 10,
+            Refusal::WrongNumber { .. } => 11,
+            Refusal::WrongForm { .. } => 12,
+            Refusal::WrongOrder { .. } => 13,
+            Refusal::NoEnd { .. } => 14,
             Refusal::OutputTooShort => 15,
         }
     }
@@ -74,11 +77,11 @@ impl Refusal {
             Refusal::TagLength => "given tag not 4 to 16 bytes",
             Refusal::TagDiffers => "tag differs",
             Refusal::FileSize => "file not of 1 to 65,536 blocks of 512 bytes",
-            Refusal::WrongCheck { block: _ } => "check wrong",
-            Refusal::WrongNumber { block: _ } => "number is not the place",
-            Refusal::WrongForm { block: _ } => "kind, reserve, used length or a byte past it wrong",
-            Refusal::WrongOrder { block: _ } => "block in the wrong order",
-            Refusal::NoEnd { blocks: _ } => "last block is no end",
+            Refusal::WrongCheck { .. } => "check wrong",
+            Refusal::WrongNumber { .. } => "number is not the place",
+            Refusal::WrongForm { .. } => "kind, reserve, used length or a byte past it wrong",
+            Refusal::WrongOrder { .. } => "block in the wrong order",
+            Refusal::NoEnd { .. } => "last block is no end",
             Refusal::OutputTooShort => "output too short",
         }
     }
@@ -88,12 +91,31 @@ impl Refusal {
         ensures { result ≡ place_of self }
     {
         match self {
-            Refusal::WrongCheck { block } => Some(block),
-            Refusal::WrongNumber { block } => Some(block),
-            Refusal::WrongForm { block } => Some(block),
-            Refusal::WrongOrder { block } => Some(block),
+            Refusal::WrongCheck { block }
+            | Refusal::WrongNumber { block }
+            | Refusal::WrongForm { block }
+            | Refusal::WrongOrder { block } => Some(block),
             Refusal::NoEnd { blocks } => Some(blocks),
             _ => None,
         }
     }
 }
+
+// One line: the number, the place if there is one, and the text.
+impl fmt::Display for Refusal {
+    ghost output = { λ refusal. Some (line_of refusal) };
+
+    fn fmt<W: fmt::Write>(&self, f: &mut fmt::Formatter<W>) -> fmt::Result {
+        let number = self.number();
+        let text = self.text();
+        match (self, self.place()) {
+            (Refusal::NoEnd { blocks }, _) => {
+                write!(f, "refused {number} after {blocks} blocks: {text}")
+            }
+            (_, Some(block)) => write!(f, "refused {number} at block {block}: {text}"),
+            (_, None) => write!(f, "refused {number}: {text}"),
+        }
+    }
+}
+
+impl Error for Refusal {}

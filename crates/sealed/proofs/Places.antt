@@ -1,11 +1,15 @@
 -- The blocks of a file by their places, and what the tests on them tell.
-use Rattle.std.proofs.Common.{◌≡◌, ℕ, zero, suc, ◌+◌, ◌-◌, ◌*◌, ◌%◌, ◌<◌, ◌≤◌, Bool, true, false, cond, not, ◌&&◌, eqb, leb, List, length, take, drop, is_some, is_ok, Some, None, Ok, Err, Option, Result, sym, refl, ap, ◌∙◌, inl, inr, arith}
-use Rattle.std.proofs.lemmas.Bool.{true≢false, and_parts, cases_lt, eqb-true, leb-true, le-leb, cond-true, cond-false, ne_eqb, eq-eqb}
-use Rattle.std.proofs.lemmas.List.{drop-take, take_rest, length-drop, length-take-le}
+use Rattle.std.proofs.Common.{◌≡◌, ℕ, suc, ◌+◌, ◌-◌, ◌*◌, ◌%◌, ◌<◌, ◌≤◌, Bool, true, false, cond, not, ◌&&◌, eqb, leb, List, length, take, drop, is_some, is_ok, Some, None, Ok, Err, Option, Result, sym, refl, ap, ◌∙◌, arith}
+use Rattle.std.proofs.lemmas.Bool.{true≢false, and_from, and_parts, eqb-true, leb-true, cond-true, cond-false, ne_eqb, eq-eqb}
+use Rattle.std.proofs.lemmas.List.{drop-take, length-drop, length-take-le}
 use Rattle.refusal.specs.declared.Refusal.{Refusal}
 use Rattle.format.specs.Layout.{check_of}
-use Rattle.format.specs.Faults.{Previous, number_in, kind_in, reserve_in, used_in, fill_in, check_in, is_used_fit, is_all_zero, is_form_good, is_order_good, is_size_good, previous, block_at, previous_at, fault_of}
-use Rattle.sealed.specs.Reading.{wrong_at}
+use Rattle.format.specs.Faults.{Previous, number_in, kind_in, reserve_in, used_in, fill_in, check_in, is_used_fit, is_all_zero, is_form_good, is_order_good, is_size_good, block_at, previous_at, fault_of}
+use Rattle.format.specs.Kinds.{number_of}
+use Rattle.format.specs.declared.kind.Kind.{Kind}
+use Rattle.format.specs.declared.kind.Kind.TheVariants.{Header, Body, End}
+use Rattle.sealed.specs.Reading.{prefix_in, wrong_at}
+use Rattle.sealed.specs.declared.prefix.Prefix.{Prefix}
 
 -- ---- what tests tell
 
@@ -27,37 +31,61 @@ fits_within used false fits = leb-true used 502 (and_parts (leb 1 used) (leb use
 pub used_within : (kind used : ℕ) → is_used_fit kind used ≡ true → used ≤ 502
 used_within kind used fits = fits_within used (eqb kind 3) fits
 
--- a good form: the kind is one of three, and the data stays within its place
-pub record Formed (b : List ℕ) : Type 0 where
-  pub low : 1 ≤ kind_in b
-  pub high : kind_in b ≤ 3
-  pub used : used_in b ≤ 502
-
-pub formed : (b : List ℕ) → is_form_good b ≡ true → Formed b
-formed b good =
-    let p = and_parts (leb 1 (kind_in b)) _ good in
-    let q = and_parts (leb (kind_in b) 3) _ p.1 in
-    let r = and_parts (eqb (reserve_in b) 0) _ q.1 in
-    let s = and_parts (is_used_fit (kind_in b) (used_in b)) (is_all_zero (fill_in b)) r.1 in
-    record {
-      low = leb-true 1 (kind_in b) p.0;
-      high = leb-true (kind_in b) 3 q.0;
-      used = used_within (kind_in b) (used_in b) s.0;
-    }
-
--- where all else is good, the fill decides
-and_true : (t u : Bool) → t ≡ true → (t && u) ≡ u
-and_true t u e = ap (λ (b : Bool). b && u) e
-
-pub form_by_fill : (b : List ℕ) → 1 ≤ kind_in b → kind_in b ≤ 3 → reserve_in b ≡ 0 → is_used_fit (kind_in b) (used_in b) ≡ true → is_form_good b ≡ is_all_zero (fill_in b)
-form_by_fill b low high reserve used =
-    and_true (leb 1 (kind_in b)) _ (le-leb 1 (kind_in b) low) ∙ and_true (leb (kind_in b) 3) _ (le-leb (kind_in b) 3 high)
-    ∙ and_true (eqb (reserve_in b) 0) _ (eq-eqb (reserve_in b) 0 reserve) ∙ and_true (is_used_fit (kind_in b) (used_in b)) _ used
+-- ---- a block of good form
 
 pub fill_is : (b : List ℕ) (used : ℕ) → used ≤ 502 → take (508 - (6 + used)) (drop (6 + used) b) ≡ drop (6 + used) (take 508 b)
 fill_is b used within =
     let e : 6 + used + (508 - (6 + used)) ≡ 508 = omega arith in
     sym (drop-take (6 + used) (508 - (6 + used)) b) ∙ ap (λ (n : ℕ). drop (6 + used) (take n b)) e
+
+unless_first : (t u : Bool) → t ≡ true → (t && u) ≡ u
+unless_first t u e = ap (λ (b : Bool). b && u) e
+
+unless_second : (t u v : Bool) → u ≡ false → (t && (u && v)) ≡ false
+unless_second true u v e = ap (λ (b : Bool). b && v) e
+unless_second false u v e = refl
+
+unless_third : (t u v : Bool) → v ≡ false → (t && (u && v)) ≡ false
+unless_third true true v e = e
+unless_third true false v e = refl
+unless_third false u v e = refl
+
+-- a kind's number is 1 to 3
+in_range : (k : Kind) → (leb 1 (number_of k) ≡ true) × (leb (number_of k) 3 ≡ true)
+in_range Header = (refl, refl)
+in_range Body = (refl, refl)
+in_range End = (refl, refl)
+
+module _ (b : List ℕ) (k : Kind) (p : Prefix) (kind : number_of k ≡ p.kind) (named : p ≡ prefix_in b) where
+  abbrev zeros : Bool
+  zeros = is_all_zero (drop (6 + p.used) (take 508 b))
+
+  abbrev slice : List ℕ
+  slice = take (508 - (6 + p.used)) (drop (6 + p.used) b)
+
+  -- where the kind is one of three, reserve, used length and fill decide
+  form_is : is_form_good b ≡ (eqb p.reserve 0 && (is_used_fit (number_of k) p.used && zeros))
+  form_is =
+      let said : prefix_in b ≡ p = sym named in
+      let number : kind_in b ≡ number_of k = sym (kind ∙ ap (λ (q : Prefix). q.kind) named) in
+      (λ i. leb 1 (number i) && (leb (number i) 3 && (eqb (said i).reserve 0 && (is_used_fit (number i) (said i).used && is_all_zero (drop (6 + (said i).used) (take 508 b))))))
+      ∙ unless_first (leb 1 (number_of k)) _ (in_range k).0
+      ∙ unless_first (leb (number_of k) 3) _ (in_range k).1
+
+  fill_read : is_used_fit (number_of k) p.used ≡ true → zeros ≡ is_all_zero slice
+  fill_read fits = ap is_all_zero (sym (fill_is b p.used (used_within (number_of k) p.used fits)))
+
+  pub bad_reserve : (p.reserve ≡ 0 → ⊥) → is_form_good b ≡ false
+  bad_reserve some = form_is ∙ ap (λ (t : Bool). t && (is_used_fit (number_of k) p.used && zeros)) (ne_eqb p.reserve 0 some)
+
+  pub bad_used : is_used_fit (number_of k) p.used ≡ false → is_form_good b ≡ false
+  bad_used bad = form_is ∙ unless_second (eqb p.reserve 0) (is_used_fit (number_of k) p.used) zeros bad
+
+  pub bad_fill : is_used_fit (number_of k) p.used ≡ true → is_all_zero slice ≡ false → is_form_good b ≡ false
+  bad_fill fits bad = form_is ∙ unless_third (eqb p.reserve 0) (is_used_fit (number_of k) p.used) zeros (fill_read fits ∙ bad)
+
+  pub good_form : p.reserve ≡ 0 → is_used_fit (number_of k) p.used ≡ true → is_all_zero slice ≡ true → is_form_good b ≡ true
+  good_form none fits good = form_is ∙ and_from _ _ (eq-eqb p.reserve 0 none) (and_from _ _ fits (fill_read fits ∙ good))
 
 pub clear : (t : Bool) (more : Option Refusal) (e : Refusal) → cond t more (Some e) ≡ None → (t ≡ true) × (more ≡ None)
 clear true more e none = (refl, none)
@@ -101,23 +129,8 @@ used_of_end b good end =
 
 -- ---- places
 
-pub previous_at_place : (file : List ℕ) (k : ℕ) → (k ≡ 0 → ⊥) → previous (block_at file (k - 1)) ≡ previous_at file k
-previous_at_place file zero some = absurd (some refl)
-previous_at_place file (suc k) some = let e : suc k - 1 ≡ k = omega arith in ap (λ (j : ℕ). previous (block_at file j)) e
-
-pub bytes_left : (file : List ℕ) (n : ℕ) → (length (take (length file - n) (drop n file)) ≡ 0 → ⊥) → n < length file
-bytes_left file n some =
-    elim (cases_lt n (length file)) [
-      | inl less ↦ less
-      | inr all ↦ absurd (some (ap length (take_rest file n) ∙ length-drop n file ∙ omega arith))
-    ]
-
 pub block_size : (file : List ℕ) (k : ℕ) → 512 * suc k ≤ length file → length (block_at file k) ≡ 512
 block_size file k within = length-take-le 512 (drop (512 * k) file) (omega (arith, length-drop (512 * k) file))
-
--- a whole block stands where bytes are left
-pub block_left : (file : List ℕ) (k : ℕ) → Sized file → 512 * k < length file → 512 * suc k ≤ length file
-block_left file k good some = let whole = good.whole in omega arith
 
 pub wrong_block : (file : List ℕ) (k : ℕ) → is_size_good file ≡ true → 512 * k < length file → wrong_at file k ≡ fault_of k (previous_at file k) (block_at file k)
 wrong_block file k good some = cond-true _ _ _ good ∙ cond-false _ _ _ (ne_eqb (512 * k) (length file) (λ e. omega (arith, e)))

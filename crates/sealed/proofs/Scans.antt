@@ -1,16 +1,17 @@
 -- The blocks of a file, one after another.
-use Rattle.std.proofs.Common.{◌≡◌, ℕ, zero, suc, ◌+◌, ◌-◌, ◌*◌, ◌/◌, ◌<◌, ◌≤◌, min, Bool, true, false, cond, eqb, List, [], ◌∷◌, ◌++◌, length, take, drop, Some, None, Err, sym, refl, ap, ◌∙◌, append_assoc, append-nil, zero-add, arith, length-append}
+use Rattle.std.proofs.Common.{◌≡◌, ℕ, zero, suc, ◌+◌, ◌-◌, ◌*◌, ◌/◌, ◌<◌, ◌≤◌, min, Bool, true, false, cond, eqb, List, [], ◌∷◌, ◌++◌, length, get_or, take, drop, take-append-drop, add-one, Some, None, Err, sym, refl, ap, ap₂, ◌∙◌, append_assoc, append-nil, zero-add, arith, length-append}
 use native.Mathlib.Decide.{dec_le}
-use Rattle.std.proofs.lemmas.List.{drop-drop, length-drop, length-take, length-take-le, take_all}
+use Rattle.std.proofs.lemmas.List.{drop-drop, drop_more, take_more, length-drop, length-take, length-take-le, take_all}
+use Rattle.std.specs.Simd.{first_chunks}
 use Rattle.refusal.specs.declared.Refusal.{Refusal}
 use Rattle.format.specs.Faults.{Previous, previous, kind_in, used_in, data_in, rows_of, block_at, blocks_of, on_fault, fault_of, scanned, data_of}
+use Rattle.format.specs.Kinds.{number_of}
 use Rattle.sealed.specs.Checking.{data_of_kind}
+use Rattle.sealed.specs.Shapes.{shown}
+use Rattle.sealed.specs.declared.shape.Shape.{Shape}
+use Rattle.sealed.proofs.Places.{block_size}
 
 -- ---- rows
-
--- the slice from block k to the next
-pub slice_is : (file : List ℕ) (k : ℕ) → take (512 * k + 512 - 512 * k) (drop (512 * k) file) ≡ block_at file k
-slice_is file k = let e : 512 * k + 512 - 512 * k ≡ 512 = omega arith in ap (λ (n : ℕ). take n (drop (512 * k) file)) e
 
 pub rows_split : (n k : ℕ) (file : List ℕ) → rows_of (n + k) file ≡ rows_of n file ++ rows_of k (drop (512 * n) file)
 rows_split zero k file = ap (λ (j : ℕ). rows_of j file) (zero-add k)
@@ -30,6 +31,27 @@ rows_more n k file within =
     ap (λ (j : ℕ). rows_of j (drop (512 * k) file)) e
     ∙ ap (λ (xs : List ℕ). block_at file k ∷ rows_of (n - (k + 1)) xs) (drop-drop 512 (512 * k) file ∙ ap (λ (j : ℕ). drop j file) further)
 
+-- the whole blocks of a file, as its chunks
+chunks_rows : (n : ℕ) (file : List ℕ) → first_chunks 512 n file ≡ rows_of n file
+chunks_rows zero file = refl
+chunks_rows (suc n) file = ap (λ rows. take 512 file ∷ rows) (chunks_rows n (drop 512 file))
+
+pub chunks_are : (file : List ℕ) (bs : List (List ℕ)) → bs ≡ first_chunks 512 (length file / 512) file → bs ≡ blocks_of file
+unfolding blocks_of
+chunks_are file bs cut = cut ∙ chunks_rows (length file / 512) file
+
+-- a block among the chunks is a whole one
+chunk_at : (n k : ℕ) (file d : List ℕ) → k < n → get_or (first_chunks 512 n file) k d ≡ block_at file k
+chunk_at zero k file d less = absurd (omega arith)
+chunk_at (suc n) zero file d less = refl
+chunk_at (suc n) (suc k) file d less =
+    let further : 512 + 512 * k ≡ 512 * suc k = omega arith in
+    chunk_at n k (drop 512 file) d (omega arith) ∙ ap (take 512) (drop-drop (512 * k) 512 file ∙ ap (λ (j : ℕ). drop j file) further)
+
+pub chunk_size : (file : List ℕ) (bs : List (List ℕ)) (k : ℕ) (d : List ℕ) → bs ≡ first_chunks 512 (length file / 512) file → k < length file / 512 → length (get_or bs k d) ≡ 512
+chunk_size file bs k d cut less =
+    ap (λ cs. length (get_or cs k d)) cut ∙ ap length (chunk_at (length file / 512) k file d less) ∙ block_size file k (omega (arith, less))
+
 -- ---- data
 
 data_cons : (kind : ℕ) (b : List ℕ) (bs : List (List ℕ)) → data_of kind (b ∷ bs) ≡ data_of_kind kind b ++ data_of kind bs
@@ -46,6 +68,19 @@ data_append kind (a ∷ cs) bs =
     ∙ sym (append_assoc (data_of_kind kind a) (data_of kind cs) (data_of kind bs)) ∙ sym (ap (λ (xs : List ℕ). xs ++ data_of kind bs) (data_cons kind a cs))
 
 -- one block more
+pub data_on : (kind k : ℕ) (bs : List (List ℕ)) (d : List ℕ) → k < length bs → data_of kind (take (k + 1) bs) ≡ data_of kind (take k bs) ++ data_of_kind kind (get_or bs k d)
+data_on kind k bs d less =
+    ap (data_of kind) (take_more bs k d less) ∙ data_append kind (take k bs) (get_or bs k d ∷ [])
+    ∙ ap (λ (xs : List ℕ). data_of kind (take k bs) ++ xs) (data_cons kind (get_or bs k d) [] ∙ append-nil (data_of_kind kind (get_or bs k d)))
+
+-- what is read by block k is part of what is read in the end
+pub data_upto : (kind k : ℕ) (bs : List (List ℕ)) → length (data_of kind (take k bs)) ≤ length (data_of kind bs)
+data_upto kind k bs =
+    let both =
+    ap (λ cs. length (data_of kind cs)) (sym (take-append-drop k bs))
+    ∙ ap length (data_append kind (take k bs) (drop k bs)) ∙ length-append (data_of kind (take k bs)) (data_of kind (drop k bs)) in
+    omega (arith, both)
+
 pub data_more : (kind k : ℕ) (file : List ℕ) → data_of kind (rows_of (k + 1) file) ≡ data_of kind (rows_of k file) ++ data_of_kind kind (block_at file k)
 data_more kind k file =
     ap (data_of kind) (rows_split k 1 file) ∙ data_append kind (rows_of k file) (block_at file k ∷ [])
@@ -72,27 +107,22 @@ data_within kind (suc n) file =
     let both = ap length (data_cons kind (take 512 file) (rows_of n (drop 512 file))) ∙ length-append (data_of_kind kind (take 512 file)) (data_of kind (rows_of n (drop 512 file))) in
     omega (arith, both, data_short kind file, data_within kind n (drop 512 file))
 
--- what is read by block k is part of what is read in the end
-pub data_part : (kind k n : ℕ) (file : List ℕ) → k ≤ n → length (data_of kind (rows_of k file)) ≤ length (data_of kind (rows_of n file))
-data_part kind k n file within =
-    let e : k + (n - k) ≡ n = omega arith in
-    let later = rows_of (n - k) (drop (512 * k) file) in
-    let both =
-    ap (λ (j : ℕ). length (data_of kind (rows_of j file))) (sym e)
-    ∙ ap (λ rows. length (data_of kind rows)) (rows_split k (n - k) file)
-    ∙ ap length (data_append kind (rows_of k file) later) ∙ length-append (data_of kind (rows_of k file)) (data_of kind later) in
-    omega (arith, both)
+-- the data of block k stay within the limit of all, and come next
+pub data_next : (kind k limit : ℕ) (bs : List (List ℕ)) (d piece : List ℕ) → k < length bs → length (data_of kind bs) ≤ limit → piece ≡ data_of_kind kind (get_or bs k d)
+    → (length (data_of kind (take k bs)) + length piece ≤ limit) × (data_of kind (take k bs) ++ piece ≡ data_of kind (take (k + 1) bs))
+data_next kind k limit bs d piece less within read =
+    let taken : List ℕ = data_of kind (take k bs) in
+    let joins : taken ++ piece ≡ data_of kind (take (k + 1) bs) = ap (λ (xs : List ℕ). taken ++ xs) read ∙ sym (data_on kind k bs d less) in
+    (omega (arith, ap length joins, length-append taken piece, data_upto kind (k + 1) bs, within), joins)
 
--- the data of block k, as read from its slice, stay within the limit of all, and come next
-pub data_next : (kind k limit : ℕ) (file piece : List ℕ) → k < length file / 512 → length (data_of kind (blocks_of file)) ≤ limit
-    → piece ≡ data_of_kind kind (take (512 * k + 512 - 512 * k) (drop (512 * k) file))
-    → (length (data_of kind (rows_of k file)) + length piece ≤ limit) × (data_of kind (rows_of k file) ++ piece ≡ data_of kind (rows_of (k + 1) file))
-unfolding blocks_of
-data_next kind k limit file piece less within read =
-    let taken : List ℕ = data_of kind (rows_of k file) in
-    let joins : taken ++ piece ≡ data_of kind (rows_of (k + 1) file) =
-    ap (λ (xs : List ℕ). taken ++ xs) (read ∙ ap (data_of_kind kind) (slice_is file k)) ∙ sym (data_more kind k file) in
-    (omega (arith, ap length joins, length-append taken piece, data_part kind (k + 1) (length file / 512) file (omega (arith, less)), within), joins)
+-- how many bytes of a kind there are after one block more
+pub count_on : (kind k count : ℕ) (bs : List (List ℕ)) (d : List ℕ) (s : Shape) → k < length bs → length (get_or bs k d) ≡ 512 → shown s ≡ previous (get_or bs k d)
+    → count ≡ length (data_of kind (take k bs)) → count + cond (eqb (number_of s.kind) kind) s.used 0 ≡ length (data_of kind (take (k + 1) bs))
+count_on kind k count bs d s less size said so_far =
+    let used : s.used ≡ used_in (get_or bs k d) = ap (λ (p : Previous). p.used) said in
+    ap₂ (λ (x y : ℕ). x + y) so_far
+    (ap (λ (p : Previous). cond (eqb p.kind kind) p.used 0) said ∙ sym (data_length kind (get_or bs k d) size (omega (arith, used, s.short))))
+    ∙ sym (ap length (data_on kind k bs d less) ∙ length-append (data_of kind (take k bs)) (data_of_kind kind (get_or bs k d)))
 
 -- all data is within the file
 pub data_in_file : (kind : ℕ) (file : List ℕ) → length (data_of kind (blocks_of file)) ≤ length file
@@ -118,3 +148,13 @@ scan_on k p b bs none = ap (λ o. on_fault o (scanned (suc k) (previous b) bs)) 
 
 pub scan_stop : (k : ℕ) (p : Previous) (b : List ℕ) (bs : List (List ℕ)) (e : Refusal) → fault_of k p b ≡ Some e → scanned k p (b ∷ bs) ≡ Err e
 scan_stop k p b bs e bad = ap (λ o. on_fault o (scanned (suc k) (previous b) bs)) bad
+
+-- a scan from block k on: past a block without fault, and no further than one with a fault
+pub scan_more : (k : ℕ) (p : Previous) (bs : List (List ℕ)) (d : List ℕ) → k < length bs → fault_of k p (get_or bs k d) ≡ None
+    → scanned k p (drop k bs) ≡ scanned (k + 1) (previous (get_or bs k d)) (drop (k + 1) bs)
+scan_more k p bs d less none =
+    ap (scanned k p) (drop_more bs k d less) ∙ scan_on k p (get_or bs k d) (drop (k + 1) bs) none
+    ∙ ap (λ (j : ℕ). scanned j (previous (get_or bs k d)) (drop (k + 1) bs)) (sym (add-one k))
+
+pub scan_ends : (k : ℕ) (p : Previous) (bs : List (List ℕ)) (d : List ℕ) (e : Refusal) → k < length bs → fault_of k p (get_or bs k d) ≡ Some e → scanned k p (drop k bs) ≡ Err e
+scan_ends k p bs d e less bad = ap (scanned k p) (drop_more bs k d less) ∙ scan_stop k p (get_or bs k d) (drop (k + 1) bs) e bad

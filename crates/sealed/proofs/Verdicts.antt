@@ -1,6 +1,6 @@
 -- From the first pass and the tag to the verdict.
 use Rattle.std.proofs.Common.{◌≡◌, ℕ, zero, suc, ◌+◌, ◌-◌, ◌*◌, ◌/◌, ◌≤◌, Bool, true, false, cond, eqb, leb, List, [], ◌∷◌, ◌++◌, length, take, drop, is_ok, Some, None, Ok, Err, MatchBool, Option, Result, sym, refl, ap, ◌∙◌, subst, append-nil, arith}
-use Rattle.std.proofs.lemmas.List.{drop-drop, length-drop, take_all, take_rest}
+use Rattle.std.proofs.lemmas.List.{drop-drop, length-drop, take_all}
 use Rattle.std.proofs.lemmas.Bool.{true≢false, cond-true, cond-false, eq-eqb, eqb-true, leb-true}
 use Rattle.field.specs.declared.kinds.Block.{Block}
 use Rattle.refusal.specs.Refusals.{number_of}
@@ -160,21 +160,20 @@ tag_at n q file done end =
     said.0 ∙ ap (λ (j : ℕ). take j (drop 6 (last_of (take 512 file) (rows_of n (drop 512 file))))) said.1
     ∙ ap (λ (b : List ℕ). take 16 (drop 6 b)) (last_row n file)
 
--- the slice from 512 bytes before the end on is the last block
-last_slice : (file : List ℕ) (n : ℕ) → length file ≡ 512 * suc n → take (length file - (length file - 512)) (drop (length file - 512) file) ≡ block_at file n
-last_slice file n size =
+-- the last 512 bytes are the last block
+last_chunk : (file : List ℕ) (n : ℕ) → length file ≡ 512 * suc n → drop (length file - 512) file ≡ block_at file n
+last_chunk file n size =
     let at : length file - 512 ≡ 512 * n = omega (arith, size) in
-    take_rest file (length file - 512) ∙ ap (λ (j : ℕ). drop j file) at
-    ∙ sym (take_all 512 (drop (512 * n) file) (omega (arith, length-drop (512 * n) file, size)))
+    ap (λ (j : ℕ). drop j file) at ∙ sym (take_all 512 (drop (512 * n) file) (omega (arith, length-drop (512 * n) file, size)))
 
 pub tag_stored : (file : List ℕ) (lengths : Lengths) → Passed file lengths → Sized file
-    → take 16 (drop 6 (take (length file - (length file - 512)) (drop (length file - 512) file))) ≡ tag_in file
+    → take 16 (drop 6 (drop (length file - 512) file)) ≡ tag_in file
 unfolding blocks_of
 tag_stored file lengths pass good =
     let n : ℕ = length file / 512 - 1 in
     let count : length file / 512 ≡ suc n = omega (arith, good.some) in
     let size : length file ≡ 512 * suc n = omega (arith, good.whole, good.some) in
-    ap (λ (b : List ℕ). take 16 (drop 6 b)) (last_slice file n size)
+    ap (λ (b : List ℕ). take 16 (drop 6 b)) (last_chunk file n size)
     ∙ sym (ap (λ (j : ℕ). data_of 3 (rows_of j file)) count ∙ tag_at n pass.last file (sym (ap (λ (j : ℕ). scanned 0 first (rows_of j file)) count) ∙ pass.scan) pass.end)
 
 -- ---- the engine

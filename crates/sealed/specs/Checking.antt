@@ -1,23 +1,25 @@
 -- What a check goes through.
-use Rattle.std.specs.Prelude.{◌≡◌, ℕ, ◌+◌, ◌/◌, cond, List, [], length, Ok, Err, MatchBool, Result, MatchResult, ◌==◌, nat_le}
+use Rattle.std.specs.Prelude.{◌≡◌, ℕ, ◌+◌, ◌/◌, cond, List, [], length, Some, Ok, Err, MatchBool, Result, MatchResult, ◌==◌, nat_le}
 use Rattle.message.specs.Limits.{header_limit}
-use Rattle.refusal.specs.Refusals.{number_of}
+use Rattle.refusal.specs.Refusals.{number_of as refusal_number}
 use Rattle.refusal.specs.declared.Refusal.{Refusal}
 use Rattle.refusal.specs.declared.Refusal.TheVariants.{FileSize, HeaderTooLong, NoEnd}
 use Rattle.engine.specs.declared.engine.Engine.{Ghosts}
-use Rattle.format.specs.Faults.{first, kind_in, used_in, data_in, is_size_good, blocks_of, scanned, header_in, body_in}
+use Rattle.format.specs.Faults.{first, kind_in, data_in, is_size_good, blocks_of, scanned, header_in, body_in}
+use Rattle.format.specs.Kinds.{number_of}
 use Rattle.format.specs.Verdict.{after}
 use Rattle.format.specs.declared.lengths.Lengths.{Lengths}
 use Rattle.tag.specs.Tags.{Ran}
-use Rattle.sealed.specs.Reading.{previous_of}
+use Rattle.sealed.specs.Shapes.{previous_of}
 use Rattle.sealed.specs.declared.scanning.Scan.{Scan}
+use Rattle.sealed.specs.declared.shape.Shape.{Shape}
 
 -- one block more
-abbrev pub scan_after : Scan → List ℕ → Scan
+abbrev pub scan_after : Scan → Shape → Scan
 scan_after s b = record {
-  last = record { kind = kind_in b; used = used_in b };
-  header = s.header + cond (kind_in b == 1) (used_in b) 0;
-  body = s.body + cond (kind_in b == 2) (used_in b) 0;
+  last = Some b;
+  header = s.header + cond (number_of b.kind == 1) b.used 0;
+  body = s.body + cond (number_of b.kind == 2) b.used 0;
 }
 
 -- what all blocks say
@@ -41,4 +43,4 @@ data_of_kind kind b = cond (kind_in b == kind) (data_in b) []
 
 -- The engine hashed the file where the tag was looked at (8 is a tag that differs), and was not touched else.
 abbrev pub EngineAfter : {E : Type 0} → Ghosts E → E → List ℕ → Result Lengths Refusal → E → Type 0
-EngineAfter m e file r f = MatchResult r (λ _. Ran m e (header_in file) (body_in file) f) (λ why. MatchBool (number_of why == 8) (Ran m e (header_in file) (body_in file) f) (f ≡ e))
+EngineAfter m e file r f = MatchResult r (λ _. Ran m e (header_in file) (body_in file) f) (λ why. MatchBool (refusal_number why == 8) (Ran m e (header_in file) (body_in file) f) (f ≡ e))

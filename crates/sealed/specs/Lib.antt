@@ -1,3 +1,4 @@
+pub mod Shapes
 pub mod Reading
 pub mod Feeding
 pub mod Writing

@@ -1,19 +1,27 @@
 -- What a reader answers.
-use Rattle.std.specs.Prelude.{◌≡◌, ℕ, suc, ◌*◌, ◌≤◌, cond, List, length, take, drop, Some, None, Ok, Err, Option, Result, ◌==◌}
+use Rattle.std.specs.Prelude.{◌≡◌, ℕ, suc, true, false, ◌*◌, ◌≤◌, cond, List, length, take, drop, Some, None, Ok, Err, Option, Result, ◌==◌}
 use Rattle.refusal.specs.declared.Refusal.{Refusal}
 use Rattle.refusal.specs.declared.Refusal.TheVariants.{FileSize, NoEnd}
-use Rattle.format.specs.Faults.{Previous, number_in, kind_in, reserve_in, used_in, data_in, is_size_good, block_at, previous_at, fault_of}
-use Rattle.sealed.specs.declared.faults.Before.{Before}
+use Rattle.format.specs.Faults.{Previous, number_in, kind_in, reserve_in, used_in, data_in, is_form_good, is_size_good, previous, block_at, previous_at, fault_of}
+use Rattle.sealed.specs.Shapes.{shown}
 use Rattle.sealed.specs.declared.prefix.Prefix.{Prefix}
 use Rattle.sealed.specs.declared.record.Item.{Item}
 use Rattle.sealed.specs.declared.record.Record.{Record}
 use Rattle.sealed.specs.declared.record.Record.TheVariants.{Header, Body, End}
+use Rattle.sealed.specs.declared.shape.Shape.{Shape}
 
 abbrev pub prefix_in : List ℕ → Prefix
 prefix_in b = record { number = number_in b; kind = kind_in b; reserve = reserve_in b; used = used_in b }
 
-abbrev pub previous_of : Before → Previous
-previous_of b = record { kind = b.kind; used = b.used }
+-- the shape that a block has, or none where its form is wrong
+abbrev pub Formed : List ℕ → Option Shape → Type 0
+Formed b None = is_form_good b ≡ false
+Formed b (Some s) = (is_form_good b ≡ true) × (shown s ≡ previous b)
+
+-- the shape of block k, which stands after p, or its first fault
+abbrev pub Checked : ℕ → Previous → List ℕ → Result Shape Refusal → Type 0
+Checked k p b (Ok s) = (fault_of k p b ≡ None) × (shown s ≡ previous b)
+Checked k p b (Err e) = fault_of k p b ≡ Some e
 
 abbrev pub kind_of : Record → ℕ
 kind_of (Header piece) = 1

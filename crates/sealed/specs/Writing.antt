@@ -7,7 +7,7 @@ use Rattle.refusal.specs.declared.Refusal.{Refusal}
 use Rattle.refusal.specs.declared.Refusal.TheVariants.{HeaderTooLong, FileSize, OutputTooShort}
 use Rattle.format.specs.Layout.{blocks_for}
 use Rattle.format.specs.Verdict.{after}
-use Rattle.sealed.specs.declared.written.Sealed.{Sealed}
+use Rattle.sealed.specs.declared.handed.Sealed.{Sealed}
 
 -- by lengths: the header's limit, the most blocks of a file, and the output's room; else the count of blocks
 abbrev pub room_answer : ℕ → ℕ → ℕ → Result ℕ Refusal

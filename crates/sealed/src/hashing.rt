@@ -3,60 +3,27 @@ ghost use Rattle.std.specs.Prelude.{◌≡◌, ◌≤◌, true, length};
 ghost use Rattle.format.specs.Faults.{body_in, header_in, is_size_good};
 ghost use Rattle.message.specs.Limits.{header_limit, body_limit};
 ghost use Rattle.message.specs.Hash.{hash_of, tag_of};
-ghost use Rattle.sealed.specs.Checking.{data_of_kind};
 ghost use Rattle.tag.specs.Tags.{Ran};
-ghost use Rattle.sealed.specs.Feeding.{BodyFed, HeaderFed};
 
-use crate::prefix::read_prefix;
+use crate::feeding::{Takes, feed_part};
 use engine::Engine;
 use field::Block;
-use job::{BodyJob, Closed, HeaderJob};
+use format::Kind;
+use job::{Closed, HeaderJob};
+use message::Message;
 
-pub(crate) fn hash_parts<E: Engine>(engine: E, pad: Block, header: &[u8], body: &[u8]) -> Closed<E>
-    requires short { length header.now ≤ header_limit }
-    requires few { length body.now ≤ body_limit }
-    ensures ran { Ran E.Engine engine header.now body.now result.engine }
-    ensures hash { result.hash ≡ hash_of (E.subkey_of engine) header.now body.now }
-    ensures tag { result.tag ≡ tag_of (E.subkey_of engine) pad header.now body.now }
+pub(crate) fn hash_parts<E: Engine>(engine: E, pad: Block, message: Message) -> Closed<E>
+    requires short { length message.header.now ≤ header_limit }
+    requires few { length message.body.now ≤ body_limit }
+    ensures ran { Ran E.Engine engine message.entry.header.now message.entry.body.now result.engine }
+    ensures hash { result.hash ≡ hash_of (E.subkey_of engine) message.entry.header.now message.entry.body.now }
+    ensures tag { result.tag ≡ tag_of (E.subkey_of engine) pad message.entry.header.now message.entry.body.now }
 {
     let mut job = HeaderJob::start(engine);
-    let _ = job.feed(header);
+    job.take(message.header);
     let mut job = job.turn();
-    let _ = job.feed(body);
+    job.take(message.body);
     job.close(pad)
-}
-
-// The data of a block of this kind, and none of another.
-fn data_for<'a>(block: &'a [u8], kind: u8) -> &'a [u8]
-    requires { 6 ≤ length block.now }
-    ensures { result.now ≡ data_of_kind kind block.now }
-{
-    let (prefix, rest) = read_prefix(block);
-    if prefix.kind != kind {
-        return &rest[0..0];
-    }
-    let end = prefix.used.min(rest.len());
-    &rest[0..end]
-}
-
-// The data of all header blocks. None is refused, since all together are within the limit.
-fn feed_header<E: Engine>(job: &mut HeaderJob<E>, file: &[u8])
-    requires { length (header_in file.now) ≤ header_limit }
-    ensures { HeaderFed E.Engine job.old (header_in file.now) job.new }
-{
-    for k in 0..file.len() / 512 {
-        let _ = job.feed(data_for(&file[512 * k..512 * k + 512], 1));
-    }
-}
-
-// The data of all body blocks.
-fn feed_body<E: Engine>(job: &mut BodyJob<E>, file: &[u8])
-    requires { length (body_in file.now) ≤ body_limit }
-    ensures { BodyFed E.Engine job.old (body_in file.now) job.new }
-{
-    for k in 0..file.len() / 512 {
-        let _ = job.feed(data_for(&file[512 * k..512 * k + 512], 2));
-    }
 }
 
 // What is read out of a file.
@@ -67,8 +34,8 @@ pub(crate) fn hash_file<E: Engine>(engine: E, pad: Block, file: &[u8]) -> Closed
     ensures tag { result.tag ≡ tag_of (E.subkey_of engine) pad (header_in file.now) (body_in file.now) }
 {
     let mut job = HeaderJob::start(engine);
-    feed_header(&mut job, file);
+    feed_part(&mut job, file, Kind::Header);
     let mut job = job.turn();
-    feed_body(&mut job, file);
+    feed_part(&mut job, file, Kind::Body);
     job.close(pad)
 }

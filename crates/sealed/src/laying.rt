@@ -1,20 +1,22 @@
 // Blocks laid into an output.
 ghost use Rattle.std.specs.Prelude.{◌≡◌, ◌+◌, ◌*◌, ◌/◌, ◌<◌, ◌≤◌, ◌++◌, map, length, take, drop};
 ghost use Rattle.format.specs.Layout.{block_bytes, content, laid, pieces};
+ghost use Rattle.format.specs.Kinds.{number_of};
 
-use format::block_check;
+use format::{Kind, block_check};
 
 // One block: prefix, data, zeros up to the check, and the check.
-fn fill_block(block: &mut [u8], number: u32, kind: u8, data: &[u8])
+// A slice, not `&mut [u8; 512]`: tried, and what `first_chunk_mut` hands back to the output did not prove in `put_block`.
+fn fill_block(block: &mut [u8], number: u32, kind: Kind, data: &[u8])
     requires whole { length block.old ≡ 512 }
     requires few { number < 65536 }
     requires fits { length «data».now ≤ 502 }
-    ensures { block.new ≡ block_bytes number (content kind «data».now) }
+    ensures { block.new ≡ block_bytes number (content (number_of kind) «data».now) }
 {
     let [n1, n0] = (number as u16).to_be_bytes();
     let [u1, u0] = (data.len() as u16).to_be_bytes();
     let end = 6 + data.len();
-    block[0..6].copy_from_slice(&[n1, n0, kind, 0, u1, u0]);
+    block[0..6].copy_from_slice(&[n1, n0, kind.number(), 0, u1, u0]);
     block[6..end].copy_from_slice(data);
     block[end..508].fill(0);
     let check = block_check(&block[0..508]).to_be_bytes();
@@ -22,11 +24,11 @@ fn fill_block(block: &mut [u8], number: u32, kind: u8, data: &[u8])
 }
 
 // A block at its place in the output.
-pub(crate) fn put_block(output: &mut [u8], number: u32, kind: u8, data: &[u8])
+pub(crate) fn put_block(output: &mut [u8], number: u32, kind: Kind, data: &[u8])
     requires room { 512 * (number + 1) ≤ length output.old }
     requires few { number < 65536 }
     requires fits { length «data».now ≤ 502 }
-    ensures front { take (512 * (number + 1)) output.new ≡ take (512 * number) output.old ++ block_bytes number (content kind «data».now) }
+    ensures front { take (512 * (number + 1)) output.new ≡ take (512 * number) output.old ++ block_bytes number (content (number_of kind) «data».now) }
     ensures back { drop (512 * (number + 1)) output.new ≡ drop (512 * (number + 1)) output.old }
 {
     let start = 512 * number as usize;
@@ -34,17 +36,15 @@ pub(crate) fn put_block(output: &mut [u8], number: u32, kind: u8, data: &[u8])
 }
 
 // The blocks of a part, one for each piece, from a number on; the answer is the next number.
-pub(crate) fn put_part(output: &mut [u8], first: u32, kind: u8, part: &[u8]) -> u32
+pub(crate) fn put_part(output: &mut [u8], first: u32, kind: Kind, part: &[u8]) -> u32
     requires room { 512 * (first + (length part.now + 501) / 502) ≤ length output.old }
     requires few { first + (length part.now + 501) / 502 ≤ 65536 }
     ensures next { result ≡ first + (length part.now + 501) / 502 }
-    ensures front { take (512 * result) output.new ≡ take (512 * first) output.old ++ laid first (map (content kind) (pieces part.now)) }
+    ensures front { take (512 * result) output.new ≡ take (512 * first) output.old ++ laid first (map (content (number_of kind)) (pieces part.now)) }
     ensures back { drop (512 * result) output.new ≡ drop (512 * result) output.old }
 {
-    let mut number = first;
-    for piece in part.chunks(502) {
-        put_block(output, number, kind, piece);
-        number += 1;
+    for (k, piece) in part.chunks(502).enumerate() {
+        put_block(output, first + k as u32, kind, piece);
     }
-    number
+    first + part.len().div_ceil(502) as u32
 }

@@ -4,6 +4,8 @@ ghost use Rattle.sealed.specs.declared.parts.ReadFault.TheVariants.{Memory, Refu
 
 use refusal::Refusal;
 use std::alloc::AllocError;
+use std::error::Error;
+use std::fmt;
 
 #[derive(Drop)]
 pub struct Parts {
@@ -11,7 +13,7 @@ pub struct Parts {
     pub body: Vec<u8>,
 }
 
-#[derive(Clone, Copy)]
+#[derive(Clone, Copy, PartialEq, Eq, Debug)]
 pub enum ReadFault {
     Refused(Refusal),
     Memory,
@@ -32,3 +34,14 @@ impl From<AllocError> for ReadFault {
         ReadFault::Memory
     }
 }
+
+impl fmt::Display for ReadFault {
+    fn fmt<W: fmt::Write>(&self, f: &mut fmt::Formatter<W>) -> fmt::Result {
+        f.write_str(match self {
+            ReadFault::Refused(refusal) => refusal.text(),
+            ReadFault::Memory => "out of memory",
+        })
+    }
+}
+
+impl Error for ReadFault {}

@@ -1,5 +1,5 @@
 // What a reader hands out: each record borrows its data from the file.
-#[derive(Clone, Copy)]
+#[derive(Clone, Copy, PartialEq, Eq, Debug)]
 pub enum Record<'a> {
     Header(&'a [u8]),
     Body(&'a [u8]),
@@ -7,7 +7,7 @@ pub enum Record<'a> {
     End(&'a [u8]),
 }
 
-#[derive(Clone, Copy)]
+#[derive(Clone, Copy, PartialEq, Eq, Debug)]
 pub struct Item<'a> {
     pub record: Record<'a>,
     // The file from the next block on.

@@ -1,49 +1,46 @@
 // A file gone through block by block, before anything is hashed.
-ghost use Rattle.std.specs.Prelude.{◌≡◌, ◌≤◌, true, length, if◌then◌else◌, nat_eq};
-ghost use Rattle.format.specs.Faults.{is_form_good, is_size_good};
+ghost use Rattle.std.specs.Prelude.{◌≡◌, ◌≤◌, true};
+ghost use Rattle.format.specs.Faults.{is_size_good};
 ghost use Rattle.sealed.specs.Checking.{Scanned, first_pass_answer, scan_after};
 
-use crate::faults::{Before, block_fault};
-use crate::prefix::{Prefix, read_prefix};
+use crate::faults::{check_block, is_ended};
 use crate::reading::size_good;
-use format::Lengths;
+use crate::shape::Shape;
+use format::{Kind, Lengths};
 use refusal::Refusal;
 
 // The last block, and how many bytes of data the blocks of each part have.
 #[derive(Clone, Copy)]
 pub(crate) struct Scan {
-    pub(crate) last: Before,
+    pub(crate) last: Option<Shape>,
     pub(crate) header: u64,
     pub(crate) body: u64,
 }
 
-// How many bytes a block brings to the part of a kind.
-fn brings(prefix: Prefix, kind: u8) -> u64
-    ensures bytes { result ≡ (if nat_eq prefix.kind kind then prefix.used else 0) }
-    ensures within { result ≤ prefix.used }
-{
-    if prefix.kind == kind {
-        prefix.used as u64
-    } else {
-        0
-    }
-}
-
-fn add_block(scan: Scan, block: &[u8]) -> Scan
-    requires whole { length block.now ≡ 512 }
-    requires form { is_form_good block.now ≡ true }
+fn add_block(scan: Scan, block: Shape) -> Scan
     requires header { scan.header ≤ 33554432 }
     requires body { scan.body ≤ 33554432 }
-    ensures { result ≡ scan_after scan block.now }
+    ensures { result ≡ scan_after scan block }
 {
-    let (prefix, _rest) = read_prefix(block);
-    Scan {
-        last: Before {
-            kind: prefix.kind,
-            used: prefix.used,
+    let Scan {
+        last: _,
+        header,
+        body,
+    } = scan;
+    let last = Some(block);
+    let used = block.used as u64;
+    match block.kind {
+        Kind::Header => Scan {
+            last,
+            header: header + used,
+            body,
         },
-        header: scan.header + brings(prefix, 1),
-        body: scan.body + brings(prefix, 2),
+        Kind::Body => Scan {
+            last,
+            header,
+            body: body + used,
+        },
+        Kind::End => Scan { last, header, body },
     }
 }
 
@@ -53,16 +50,14 @@ fn scan_blocks(file: &[u8]) -> Result<Scan, Refusal>
     ensures { Scanned file.now result }
 {
     let mut scan = Scan {
-        last: Before { kind: 0, used: 0 },
+        last: None,
         header: 0,
         body: 0,
     };
-    for k in 0..file.len() / 512 {
-        let block = &file[512 * k..512 * k + 512];
-        if let Some(refusal) = block_fault(block, k as u32, scan.last) {
-            return Err(refusal);
-        }
-        scan = add_block(scan, block);
+    let (blocks, _rest) = file.as_chunks::<512>();
+    for (k, block) in blocks.iter().enumerate() {
+        let shape = check_block(block, k as u32, scan.last)?;
+        scan = add_block(scan, shape);
     }
     Ok(scan)
 }
@@ -75,7 +70,7 @@ pub(crate) fn first_pass(file: &[u8]) -> Result<Lengths, Refusal>
         return Err(Refusal::FileSize);
     }
     let scan = scan_blocks(file)?;
-    if scan.last.kind != 3 {
+    if !is_ended(scan.last) {
         return Err(Refusal::NoEnd {
             blocks: (file.len() / 512) as u32,
         });

@@ -5,12 +5,14 @@ ghost use Rattle.format.specs.Verdict.{Reopens};
 ghost use Rattle.tag.specs.Tags.{Ran};
 ghost use Rattle.sealed.specs.Writing.{room_answer, seal_answer};
 
+use crate::handed::{Handed, Sealed, Written};
 use crate::hashing::hash_parts;
 use crate::laying::{put_block, put_part};
-use crate::written::{Sealed, Written};
 use engine::Engine;
 use field::Block;
+use format::Kind;
 use job::Closed;
+use message::Message;
 use refusal::Refusal;
 
 // How many blocks the file has, where it may be written.
@@ -34,29 +36,30 @@ fn count_blocks(header: usize, body: usize, output: usize) -> Result<u32, Refusa
 pub fn write_file<E: Engine>(
     engine: E,
     pad: Block,
-    header: &[u8],
-    body: &[u8],
+    message: Message,
     output: &mut [u8],
 ) -> Written<E>
-    ensures answer { result.answer ≡ seal_answer (E.subkey_of engine) pad header.now body.now (length output.old) }
-    ensures output { MatchResult result.answer (λ _. output.new ≡ sealed (E.subkey_of engine) pad header.now body.now ++ drop (length (sealed (E.subkey_of engine) pad header.now body.now)) output.old) (λ _. output.new ≡ output.old) }
-    ensures reopens { OnOk result.answer (Reopens (E.subkey_of engine) pad header.now body.now) }
-    ensures engine { MatchResult result.answer (λ _. Ran E.Engine engine header.now body.now result.engine) (λ _. result.engine ≡ engine) }
+    ensures answer { result.answer ≡ seal_answer (E.subkey_of engine) pad message.entry.header.now message.entry.body.now (length output.old) }
+    ensures output { MatchResult result.answer (λ _. output.new ≡ sealed (E.subkey_of engine) pad message.entry.header.now message.entry.body.now ++ drop (length (sealed (E.subkey_of engine) pad message.entry.header.now message.entry.body.now)) output.old) (λ _. output.new ≡ output.old) }
+    ensures reopens { OnOk result.answer (Reopens (E.subkey_of engine) pad message.entry.header.now message.entry.body.now) }
+    ensures engine { MatchResult result.answer (λ _. Ran E.Engine engine message.entry.header.now message.entry.body.now result.engine) (λ _. result.engine ≡ engine) }
 {
+    let Message { header, body } = message;
+    // No `?`: it would not hand the engine back with the refusal.
     let blocks = match count_blocks(header.len(), body.len(), output.len()) {
         Ok(count) => count,
         Err(refusal) => {
-            return Written {
+            return Handed {
                 engine,
                 answer: Err(refusal),
             };
         }
     };
-    let Closed { engine, hash, tag } = hash_parts(engine, pad, header, body);
-    let next = put_part(output, 0, 1, header);
-    let next = put_part(output, next, 2, body);
-    put_block(output, next, 3, &tag.to_bytes());
-    Written {
+    let Closed { engine, hash, tag } = hash_parts(engine, pad, message);
+    let next = put_part(output, 0, Kind::Header, header);
+    let next = put_part(output, next, Kind::Body, body);
+    put_block(output, next, Kind::End, &tag.to_bytes());
+    Handed {
         engine,
         answer: Ok(Sealed { blocks, hash, tag }),
     }

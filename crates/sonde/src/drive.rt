@@ -2,10 +2,11 @@
 use crate::flight::Key;
 use crate::polynomials::accepted;
 use crate::script::{Asked, Script, Step};
-use crate::stop::{Argument, Refused, Stop};
-use crate::words::{exactly, text_word};
+use crate::stop::{Argument, Stop};
+use crate::words::exactly;
 use engine::{Division, Pair, Side};
 use job::{Call, Replayed, replay};
+use message::Part;
 use refusal::Refusal;
 use std::alloc::AllocError;
 use std::io;
@@ -14,7 +15,7 @@ type Engines = Pair<engine::Step, Division>;
 
 fn print_step(
     rt: &HostRuntime,
-    part: &str,
+    part: Part,
     step: &Step,
     answer: &Result<(), Refusal>,
 ) -> io::Result<()> {
@@ -25,14 +26,14 @@ fn print_step(
     }
     match answer {
         Ok(()) => println!(rt; "accepted"),
-        Err(refusal) => println!(rt; "{}", Refused(*refusal)),
+        Err(refusal) => println!(rt; "{refusal}"),
     }
 }
 
 // Each answer of a part, and the count of bytes that were taken.
 fn print_part(
     rt: &HostRuntime,
-    part: &str,
+    part: Part,
     steps: &[Step],
     answers: &[Result<(), Refusal>],
 ) -> io::Result<u64> {
@@ -47,15 +48,15 @@ fn print_part(
 }
 
 fn print_replay(rt: &HostRuntime, script: &Script, done: &Replayed<Engines>) -> io::Result<()> {
-    let header = print_part(rt, "header", &script.header, &done.header)?;
-    let body = print_part(rt, "body", &script.body, &done.body)?;
+    let header = print_part(rt, Part::Header, &script.header, &done.header)?;
+    let body = print_part(rt, Part::Body, &script.body, &done.body)?;
     let running = match done.closed.engine.running() {
         Side::First => "step",
         Side::Second => "division",
     };
     println!(rt; "closed: {header} bytes of header, {body} of body, the {running} engine runs")?;
-    println!(rt; "hash {:032x}", done.closed.hash.bits())?;
-    println!(rt; "tag {:032x}", done.closed.tag.bits())
+    println!(rt; "hash {}", done.closed.hash)?;
+    println!(rt; "tag {}", done.closed.tag)
 }
 
 fn run_script(rt: &HostRuntime, key: Key, script: &Script) -> Result<(), Stop> {
@@ -72,6 +73,6 @@ fn run_script(rt: &HostRuntime, key: Key, script: &Script) -> Result<(), Stop> {
 pub(crate) fn replay_script(rt: &HostRuntime, words: &[String]) -> Result<(), Stop> {
     let [subkey, pad, script] = exactly::<3>(words)?;
     let key = Key::read(subkey, pad)?;
-    let text = text_word(rt, Argument::Script, script)?;
+    let text = Argument::Script.read_text(rt, script)?;
     run_script(rt, key, &Script::read(rt, &text)?)
 }

@@ -1,7 +1,8 @@
 // The commands `seal`, `check`, `list` and `open`: sealed files.
 use crate::flight::{Flight, Key};
 use crate::stop::{Argument, Stop};
-use crate::words::{Hex, exactly, file_word, write_word};
+use crate::words::{Hex, exactly};
+use message::Message;
 use sealed::{Reader, Record, Sealed, check_file, read_parts, write_file};
 
 // From this many bytes on, a command says on standard error what it is at.
@@ -16,11 +17,13 @@ fn say(rt: &HostRuntime, bytes: usize, doing: &str) -> Result<(), Stop> {
     Ok(())
 }
 
-// The bytes that a file of both parts takes, or none where it may not be written anyway.
-fn file_size(header: usize, body: usize) -> usize {
+// The bytes that the file of a message takes. Zero and no `Option` where it may not be written: the writer then refuses by itself.
+fn file_size(message: Message) -> usize {
+    let Message { header, body } = message;
     let blocks = header
+        .len()
         .div_ceil(502)
-        .saturating_add(body.div_ceil(502))
+        .saturating_add(body.len().div_ceil(502))
         .saturating_add(1);
     let size = blocks.saturating_mul(512);
     if size > LARGEST { 0 } else { size }
@@ -29,13 +32,13 @@ fn file_size(header: usize, body: usize) -> usize {
 // Writes the sealed file of a flight.
 pub(crate) fn sealed_file(rt: &HostRuntime, flight: &Flight, out: &str) -> Result<Sealed, Stop> {
     let key = flight.key;
-    let files = &flight.files;
-    let size = file_size(files.header.len(), files.body.len());
+    let message = flight.files.message();
+    let size = file_size(message);
     let mut file = vec![in rt.alloc(); 0u8; size]?;
     say(rt, size, "sealing")?;
-    let sealed = write_file(key.step(), key.pad, &files.header, &files.body, &mut file).answer?;
+    let sealed = write_file(key.step(), key.pad, message, &mut file).answer?;
     say(rt, size, "writing")?;
-    write_word(rt, Argument::Out, out, &file)?;
+    Argument::Out.write(rt, out, &file)?;
     Ok(sealed)
 }
 
@@ -53,8 +56,8 @@ pub(crate) fn seal_files(rt: &HostRuntime, words: &[String]) -> Result<(), Stop>
         u64::from(sealed.blocks).saturating_mul(512),
         sealed.blocks
     )?;
-    println!(rt; "hash {:032x}", sealed.hash.bits())?;
-    println!(rt; "tag {:032x}", sealed.tag.bits())?;
+    println!(rt; "hash {}", sealed.hash)?;
+    println!(rt; "tag {}", sealed.tag)?;
     Ok(())
 }
 
@@ -72,7 +75,7 @@ fn print_checked(rt: &HostRuntime, key: Key, file: &[u8]) -> Result<(), Stop> {
 pub(crate) fn check_sealed(rt: &HostRuntime, words: &[String]) -> Result<(), Stop> {
     let [subkey, pad, file] = exactly::<3>(words)?;
     let key = Key::read(subkey, pad)?;
-    let file = file_word(rt, Argument::File, file)?;
+    let file = Argument::File.read_bytes(rt, file)?;
     print_checked(rt, key, &file)
 }
 
@@ -85,10 +88,10 @@ fn print_record(rt: &HostRuntime, place: u32, record: Record) -> Result<(), Stop
     Ok(())
 }
 
-// A line for each record; no file has more than 65,536 blocks, so no more are asked for.
+// A line for each record.
 fn print_records(rt: &HostRuntime, file: &[u8]) -> Result<(), Stop> {
     let mut reader = Reader::new(file);
-    // Counted, and no `while let`: the count is each block's number in print.
+    // Counted, and no `while let`: the count is the block's place in print. No file has more than 65,536 blocks.
     for place in 0..65_537u32 {
         let Some(item) = reader.next()? else {
             break;
@@ -100,16 +103,16 @@ fn print_records(rt: &HostRuntime, file: &[u8]) -> Result<(), Stop> {
 
 pub(crate) fn list_file(rt: &HostRuntime, words: &[String]) -> Result<(), Stop> {
     let [file] = exactly::<1>(words)?;
-    print_records(rt, &file_word(rt, Argument::File, file)?)
+    print_records(rt, &Argument::File.read_bytes(rt, file)?)
 }
 
 // Both parts are written out only after the check has passed.
 pub(crate) fn open_file(rt: &HostRuntime, words: &[String]) -> Result<(), Stop> {
     let [subkey, pad, file, header, body] = exactly::<5>(words)?;
     let key = Key::read(subkey, pad)?;
-    let file = file_word(rt, Argument::File, file)?;
+    let file = Argument::File.read_bytes(rt, file)?;
     print_checked(rt, key, &file)?;
     let parts = read_parts(rt.alloc(), &file)?;
-    write_word(rt, Argument::Header, header, &parts.header)?;
-    write_word(rt, Argument::Body, body, &parts.body)
+    Argument::Header.write(rt, header, &parts.header)?;
+    Argument::Body.write(rt, body, &parts.body)
 }

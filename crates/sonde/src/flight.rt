@@ -1,8 +1,8 @@
 // A flight that is about to leave: its key, its parts, and what the list is to be gone down with.
 use crate::stop::{Argument, Stop};
-use crate::words::{block_word, file_word, number_word};
 use engine::Step;
 use field::Block;
+use message::Message;
 
 // A subkey and a pad, which are always given together.
 #[derive(Clone, Copy)]
@@ -14,21 +14,14 @@ pub(crate) struct Key {
 impl Key {
     pub(crate) fn read(subkey: &str, pad: &str) -> Result<Key, Stop> {
         Ok(Key {
-            subkey: block_word(Argument::Subkey, subkey)?,
-            pad: block_word(Argument::Pad, pad)?,
+            subkey: Argument::Subkey.parse_block(subkey)?,
+            pad: Argument::Pad.parse_block(pad)?,
         })
     }
 
     pub(crate) fn step(self) -> Step {
         Step::new(self.subkey)
     }
-}
-
-// A message of two parts, lent.
-#[derive(Clone, Copy)]
-pub(crate) struct Message<'a> {
-    pub(crate) header: &'a [u8],
-    pub(crate) body: &'a [u8],
 }
 
 // The two files of a message.
@@ -41,8 +34,8 @@ pub(crate) struct Files {
 impl Files {
     pub(crate) fn read(rt: &HostRuntime, header: &str, body: &str) -> Result<Files, Stop> {
         Ok(Files {
-            header: file_word(rt, Argument::Header, header)?,
-            body: file_word(rt, Argument::Body, body)?,
+            header: Argument::Header.read_bytes(rt, header)?,
+            body: Argument::Body.read_bytes(rt, body)?,
         })
     }
 
@@ -67,8 +60,8 @@ pub(crate) struct Flight {
 impl Flight {
     fn take_option(&mut self, name: &str, value: &str) -> Result<(), Stop> {
         match name {
-            "--polynomial" => self.proposal = Some(block_word(Argument::Proposal, value)?),
-            "--cut" => self.cuts.push(number_word(Argument::Number, value)?)?,
+            "--polynomial" => self.proposal = Some(Argument::Proposal.parse_block(value)?),
+            "--cut" => self.cuts.push(Argument::Number.parse_number(value)?)?,
             _ => return Err(Stop::NoOption),
         }
         Ok(())

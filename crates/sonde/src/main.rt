@@ -92,7 +92,7 @@ fn main(rt: HostRuntime) -> ExitCode {
     match start(&rt) {
         Ok(()) => ExitCode::SUCCESS,
         Err(stop) => {
-            let _ = stop.tell(&rt);
+            let _ = stop.print(&rt);
             ExitCode::FAILURE
         }
     }

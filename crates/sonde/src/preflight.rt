@@ -1,18 +1,17 @@
 // The command `preflight`: the list that is gone down before a balloon is let go.
 use crate::files::sealed_file;
-use crate::flight::{Flight, Message};
+use crate::flight::Flight;
 use crate::polynomials::{accepted, try_block};
 use crate::stop::{Argument, Check, Stop};
-use crate::words::file_word;
 use engine::{Division, Engine, Pair, Step};
 use field::Block;
 use job::{BodyJob, Closed, HeaderJob};
-use message::{Part, block_of, block_of_byte_counts, find_block};
+use message::{Digest, Message, Part, block_of, block_of_byte_counts};
 use polynomial::{Accepted, Binary};
 use refusal::Refusal;
 use sealed::{check_file, read_parts};
 use std::ops::Range;
-use tag::{Tagged, tag_message};
+use tag::tag_message;
 
 // Every cut within so many bytes of the body's front is tried, and of its middle and its end within so many to both sides.
 const FRONT: usize = 64;
@@ -23,7 +22,7 @@ const AROUND: usize = 17;
 const PAST_DEGREE: usize = 129 * 16 + 7;
 
 // 1: the polynomial is the given one, else the maker's.
-fn try_flight(rt: &HostRuntime, flight: &Flight) -> Result<Accepted, Stop> {
+fn try_flight(rt: &HostRuntime, flight: &Flight) -> Result<Accepted<Block>, Stop> {
     let subkey = flight.key.subkey;
     let polynomial = match flight.proposal {
         Some(proposal) => try_block(subkey, proposal)?.polynomial,
@@ -31,8 +30,7 @@ fn try_flight(rt: &HostRuntime, flight: &Flight) -> Result<Accepted, Stop> {
     };
     let coefficients = polynomial.coefficients();
     println!(rt;
-        "1 polynomial {:032x}: ok, weight {}",
-        coefficients.bits(),
+        "1 polynomial {coefficients}: ok, weight {}",
         coefficients.weight()
     )?;
     Ok(polynomial)
@@ -55,37 +53,28 @@ fn cut_job<E: Engine + Drop>(
     Ok(job.close(pad))
 }
 
-// How many blocks both parts have, without the length block.
-fn count_blocks(message: Message) -> usize {
-    let Message { header, body } = message;
-    header
-        .len()
-        .div_ceil(16)
-        .saturating_add(body.len().div_ceil(16))
-}
-
-// The hash of the blocks that the finder finds, and the length block.
+// The hash of the blocks that the finder finds, up to the first that it does not, and the length block.
 fn found_hash(subkey: Block, message: Message) -> Block {
-    let Message { header, body } = message;
     let mut engine = Step::new(subkey);
-    for found in (0..count_blocks(message)).filter_map(|n| find_block(header, body, n)) {
+    for found in (0..usize::MAX).map_while(|n| message.find_block(n)) {
         engine.absorb(block_of(found.bytes));
     }
+    let Message { header, body } = message;
     engine.absorb(block_of_byte_counts(header.len() as u64, body.len() as u64));
     engine.value()
 }
 
 // 2: the job against the one-shot call and against the blocks that the finder finds.
-fn hash_flight(rt: &HostRuntime, flight: &Flight) -> Result<Tagged, Stop> {
+fn hash_flight(rt: &HostRuntime, flight: &Flight) -> Result<Digest, Stop> {
     let key = flight.key;
     let message = flight.files.message();
-    let tagged = tag_message(&mut key.step(), key.pad, message.header, message.body)?;
+    let tagged = tag_message(&mut key.step(), key.pad, message)?;
     let closed = cut_job(key.step(), key.pad, message, message.body.len())?;
     Check::Job.holds(closed.hash == tagged.hash)?;
     Check::Finder.holds(found_hash(key.subkey, message) == tagged.hash)?;
     println!(rt;
-        "2 header first, then body: ok, job, one-shot and finder give {:032x}",
-        tagged.hash.bits()
+        "2 header first, then body: ok, job, one-shot and finder give {}",
+        tagged.hash
     )?;
     Ok(tagged)
 }
@@ -94,6 +83,7 @@ fn hash_flight(rt: &HostRuntime, flight: &Flight) -> Result<Tagged, Stop> {
 fn try_cuts(flight: &Flight, tag: Block, cuts: Range<usize>) -> Result<usize, Stop> {
     let message = flight.files.message();
     let end = cuts.end.min(message.body.len().saturating_add(1));
+    // The place is what is tried, no index.
     for at in cuts.start..end {
         let closed = cut_job(flight.key.step(), flight.key.pad, message, at)?;
         Check::Cut.holds(closed.tag == tag)?;
@@ -103,9 +93,8 @@ fn try_cuts(flight: &Flight, tag: Block, cuts: Range<usize>) -> Result<usize, St
 
 // Whether the blocks that are found in a part of so many bytes begin where the one before ended, and reach its end.
 fn blocks_join(message: Message, part: Part, length: usize) -> bool {
-    let Message { header, body } = message;
     let mut end = 0usize;
-    for found in (0..count_blocks(message)).filter_map(|n| find_block(header, body, n)) {
+    for found in (0..usize::MAX).map_while(|n| message.find_block(n)) {
         if found.part == part {
             if found.offset != end {
                 return false;
@@ -140,7 +129,11 @@ fn cut_flight(rt: &HostRuntime, flight: &Flight, tag: Block) -> Result<(), Stop>
 }
 
 // 4: a pair of both engines, switched around the degree of the polynomial. A shorter body is filled with zeros for this.
-fn switch_flight(rt: &HostRuntime, flight: &Flight, polynomial: Accepted) -> Result<(), Stop> {
+fn switch_flight(
+    rt: &HostRuntime,
+    flight: &Flight,
+    polynomial: Accepted<Block>,
+) -> Result<(), Stop> {
     let key = flight.key;
     let mut body = flight.files.body.clone()?;
     let short = body.len() < PAST_DEGREE;
@@ -149,7 +142,7 @@ fn switch_flight(rt: &HostRuntime, flight: &Flight, polynomial: Accepted) -> Res
         header: &flight.files.header,
         body: &body,
     };
-    let tagged = tag_message(&mut key.step(), key.pad, message.header, message.body)?;
+    let tagged = tag_message(&mut key.step(), key.pad, message)?;
     for at in [126 * 16, 127 * 16, 128 * 16, 128 * 16 + 7] {
         let pair = Pair::new(key.step(), Division::new(polynomial));
         let closed = cut_job(pair, key.pad, message, at)?;
@@ -168,7 +161,7 @@ fn switch_flight(rt: &HostRuntime, flight: &Flight, polynomial: Accepted) -> Res
 fn seal_flight(rt: &HostRuntime, flight: &Flight, out: &str) -> Result<(), Stop> {
     let key = flight.key;
     let blocks = sealed_file(rt, flight, out)?.blocks;
-    let file = file_word(rt, Argument::Out, out)?;
+    let file = Argument::Out.read_bytes(rt, out)?;
     check_file(key.step(), key.pad, &file).answer?;
     let parts = read_parts(rt.alloc(), &file)?;
     Check::ReadBack.holds(parts.header == flight.files.header)?;

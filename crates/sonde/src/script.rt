@@ -164,6 +164,7 @@ impl Script {
             stage: Stage::Header,
         };
         for (at, text) in text.lines().enumerate() {
+            // Lines are counted from 1.
             let line = at.saturating_add(1);
             script
                 .take_text(rt, line, text)

@@ -52,16 +52,11 @@ impl fmt::Display for BadWord {
             BadWord::Block(fault) => (fault, "32 are wanted"),
             BadWord::Bytes(fault) => (fault, "an even count is wanted"),
         };
-        match fault {
-            HexFault::WrongLength { digits } => write!(f, "{digits} digits, and {wanted}"),
-            HexFault::NotADigit { at } => {
-                write!(
-                    f,
-                    "the character at place {at}, from 0, is no hexadecimal digit"
-                )
-            }
-            HexFault::NoMemory => write!(f, "no memory"),
+        write!(f, "{fault}")?;
+        if let HexFault::WrongLength { digits: _ } = fault {
+            write!(f, ", and {wanted}")?;
         }
+        Ok(())
     }
 }
 
@@ -92,7 +87,7 @@ impl Check {
 #[derive(Debug, Drop, Error)]
 pub(crate) enum Stop {
     // The library refused the input.
-    #[error("{}", Refused(*.0))]
+    #[error("{0}")]
     Refused(#[from] Refusal),
     #[error("{argument}: {word}")]
     BadHex {
@@ -134,6 +129,7 @@ pub(crate) enum Stop {
     Failed(#[from] io::Error),
 }
 
+// By hand: such a fault is one of two stops, and the derive would make a third.
 impl From<ReadFault> for Stop {
     fn from(fault: ReadFault) -> Stop {
         match fault {
@@ -145,28 +141,10 @@ impl From<ReadFault> for Stop {
 
 impl Stop {
     // A refusal and a comparison that fails are answers and go to standard output, the rest to standard error.
-    pub(crate) fn tell(&self, rt: &HostRuntime) -> io::Result<()> {
+    pub(crate) fn print(&self, rt: &HostRuntime) -> io::Result<()> {
         match self {
             Stop::Refused(_) | Stop::Differs(_) => println!(rt; "{self}"),
             _ => eprintln!(rt; "{self}"),
-        }
-    }
-}
-
-// A refusal's number and text, and the block that it names, if any.
-#[derive(Clone, Copy)]
-pub(crate) struct Refused(pub(crate) Refusal);
-
-impl fmt::Display for Refused {
-    fn fmt<W: fmt::Write>(&self, f: &mut fmt::Formatter<W>) -> fmt::Result {
-        let number = self.0.number();
-        let text = self.0.text();
-        match (self.0, self.0.place()) {
-            (Refusal::NoEnd { blocks }, _) => {
-                write!(f, "refused {number} after {blocks} blocks: {text}")
-            }
-            (_, Some(place)) => write!(f, "refused {number} at block {place}: {text}"),
-            (_, None) => write!(f, "refused {number}: {text}"),
         }
     }
 }

@@ -2,7 +2,7 @@
 use crate::stop::{Argument, BadWord, Stop};
 use field::Block;
 use hexadecimal::{parse_block, parse_bytes};
-use std::{fmt, fs};
+use std::{fmt, fs, io};
 
 // The words of a command that takes so many.
 pub(crate) fn exactly<const N: usize>(words: &[String]) -> Result<&[String; N], Stop> {
@@ -12,49 +12,50 @@ pub(crate) fn exactly<const N: usize>(words: &[String]) -> Result<&[String; N], 
     })
 }
 
-// A word of 32 digits.
-pub(crate) fn block_word(argument: Argument, word: &str) -> Result<Block, Stop> {
-    parse_block(word).map_err(|fault| Stop::BadHex {
-        argument,
-        word: BadWord::Block(fault),
-    })
-}
+impl Argument {
+    // A word of 32 digits.
+    pub(crate) fn parse_block(self, word: &str) -> Result<Block, Stop> {
+        parse_block(word).map_err(|fault| Stop::BadHex {
+            argument: self,
+            word: BadWord::Block(fault),
+        })
+    }
 
-// A word of any even count of digits.
-pub(crate) fn bytes_word(
-    rt: &HostRuntime,
-    argument: Argument,
-    word: &str,
-) -> Result<Vec<u8>, Stop> {
-    parse_bytes(rt.alloc(), word).map_err(|fault| Stop::BadHex {
-        argument,
-        word: BadWord::Bytes(fault),
-    })
-}
+    // A word of any even count of digits.
+    pub(crate) fn parse_bytes(self, rt: &HostRuntime, word: &str) -> Result<Vec<u8>, Stop> {
+        parse_bytes(rt.alloc(), word).map_err(|fault| Stop::BadHex {
+            argument: self,
+            word: BadWord::Bytes(fault),
+        })
+    }
 
-// A number in decimal digits.
-pub(crate) fn number_word(argument: Argument, word: &str) -> Result<usize, Stop> {
-    word.parse::<usize>()
-        .map_err(|_| Stop::BadNumber { argument })
-}
+    // A number in decimal digits.
+    pub(crate) fn parse_number(self, word: &str) -> Result<usize, Stop> {
+        word.parse::<usize>()
+            .map_err(|_| Stop::BadNumber { argument: self })
+    }
 
-// A file's bytes.
-pub(crate) fn file_word(rt: &HostRuntime, argument: Argument, path: &str) -> Result<Vec<u8>, Stop> {
-    fs::read(rt, path).map_err(|error| Stop::NoFile { argument, error })
-}
+    fn no_file(self, error: io::Error) -> Stop {
+        Stop::NoFile {
+            argument: self,
+            error,
+        }
+    }
 
-// A file's text.
-pub(crate) fn text_word(rt: &HostRuntime, argument: Argument, path: &str) -> Result<String, Stop> {
-    fs::read_to_string(rt, path).map_err(|error| Stop::NoFile { argument, error })
-}
+    // A file's bytes.
+    pub(crate) fn read_bytes(self, rt: &HostRuntime, path: &str) -> Result<Vec<u8>, Stop> {
+        fs::read(rt, path).map_err(|error| self.no_file(error))
+    }
 
-pub(crate) fn write_word(
-    rt: &HostRuntime,
-    argument: Argument,
-    path: &str,
-    bytes: &[u8],
-) -> Result<(), Stop> {
-    fs::write(rt, path, bytes).map_err(|error| Stop::NoFile { argument, error })
+    // A file's text.
+    pub(crate) fn read_text(self, rt: &HostRuntime, path: &str) -> Result<String, Stop> {
+        fs::read_to_string(rt, path).map_err(|error| self.no_file(error))
+    }
+
+    // Writes a file.
+    pub(crate) fn write(self, rt: &HostRuntime, path: &str, bytes: &[u8]) -> Result<(), Stop> {
+        fs::write(rt, path, bytes).map_err(|error| self.no_file(error))
+    }
 }
 
 // Bytes as hexadecimal digits.

@@ -1,9 +1,8 @@
 -- Bytes compared by the bits in which they differ.
-use Rattle.std.proofs.Common.{◌≡◌, ℕ, ◌+◌, ◌<◌, ◌≤◌, Bool, true, false, ◌&&◌, eqb, List, length, get_or, take, drop, sym, refl, ap, ◌∙◌, ap₂, arith, eq-eqb, ne_eqb, eqb-true}
+use Rattle.std.proofs.Common.{◌≡◌, ℕ, Bool, true, false, ◌&&◌, eqb, List, ◌∷◌, length, take, sym, refl, ap, ◌∙◌, ap₂, arith, eq-eqb, ne_eqb, eqb-true}
 use borrow.Author.Tests.{eqb-false}
 use lib.Bits.{bit_or, bit_xor, and_le_l, and_le_r, or_add_and, xor_add_and, xor_self, or_zero_l}
 use Rattle.std.specs.Str.{bytes_eq}
-use Rattle.std.proofs.lemmas.List.{drop_more, drop_all}
 
 -- the second list begins with the first
 abbrev pub begun : List ℕ → List ℕ → Bool
@@ -30,15 +29,7 @@ one_more d x y rest = by_tests (eqb d 0) (eqb x y) refl refl where
   by_tests true false zero other = ap (λ (t : Bool). t && rest) (ne_eqb (bit_or d (bit_xor x y)) 0 (λ e. eqb-false x y other (no_bits d x y e).1))
   by_tests false q some other = ap (λ (t : Bool). t && rest) (ne_eqb (bit_or d (bit_xor x y)) 0 (λ e. eqb-false d 0 some (no_bits d x y e).0))
 
-module _ (xs ys : List ℕ) (d i : ℕ) where
-  pub step_on : i < length xs → length xs ≤ length ys
-      → (eqb (bit_or d (bit_xor (get_or xs i 0) (get_or ys i 0))) 0 && begun (drop (i + 1) xs) (drop (i + 1) ys)) ≡ (eqb d 0 && begun (drop i xs) (drop i ys))
-  step_on below within =
-      one_more d (get_or xs i 0) (get_or ys i 0) (begun (drop (i + 1) xs) (drop (i + 1) ys))
-      ∙ ap₂ (λ (us vs : List ℕ). eqb d 0 && begun us vs) (sym (drop_more xs i 0 below)) (sym (drop_more ys i 0 (omega arith)))
-
-  pub at_end : length xs ≤ i → eqb d 0 ≡ (eqb d 0 && begun (drop i xs) (drop i ys))
-  at_end past = alone (eqb d 0) ∙ ap (λ (us : List ℕ). eqb d 0 && begun us (drop i ys)) (sym (drop_all i xs past)) where
-    alone : (t : Bool) → t ≡ (t && true)
-    alone true = refl
-    alone false = refl
+-- one more byte of each list
+pub step_on : (d x y : ℕ) (us vs xs ys : List ℕ) → us ≡ x ∷ xs → vs ≡ y ∷ ys
+    → (eqb (bit_or d (bit_xor x y)) 0 && begun xs ys) ≡ (eqb d 0 && begun us vs)
+step_on d x y us vs xs ys p q = one_more d x y (begun xs ys) ∙ ap₂ (λ (ps qs : List ℕ). eqb d 0 && begun ps qs) (sym p) (sym q)

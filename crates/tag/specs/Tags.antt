@@ -12,13 +12,6 @@ use Rattle.engine.specs.declared.engine.Engine.{Ghosts}
 use Rattle.refusal.specs.Refusals.{number_of}
 use Rattle.refusal.specs.declared.Refusal.{Refusal}
 use Rattle.refusal.specs.declared.Refusal.TheVariants.{TagLength, TagDiffers}
-use Rattle.tag.specs.declared.tagged.Tagged.{Tagged}
-
-abbrev pub tagged_of : Block → Block → List ℕ → List ℕ → Tagged
-tagged_of subkey pad header body = record { hash = hash_of subkey header body; tag = tag_of subkey pad header body }
-
-abbrev pub tag_answer : Block → Block → List ℕ → List ℕ → Result Tagged Refusal
-tag_answer subkey pad header body = within_limits header body (Ok (tagged_of subkey pad header body))
 
 -- 4 to 16 bytes
 abbrev pub tag_length : List ℕ → Bool

@@ -8,8 +8,8 @@ pub(crate) fn begins_with(tag: [u8; 16], given: &[u8]) -> bool
     ensures { result ≡ bytes_eq given.now (take (length given.now) tag) }
 {
     let mut difference = 0u8;
-    for i in 0..given.len() {
-        difference |= given[i] ^ tag[i];
+    for (a, b) in given.iter().zip(tag.iter()) {
+        difference |= a ^ b;
     }
     difference == 0
 }

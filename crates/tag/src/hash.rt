@@ -7,7 +7,7 @@ ghost use Rattle.tag.specs.Tags.{Ran};
 
 use engine::Engine;
 use field::{Block, Element};
-use message::{block_of, block_of_byte_counts};
+use message::{Message, block_of, block_of_byte_counts};
 
 // The blocks of one part.
 fn absorb_part<E: Engine>(engine: &mut E, part: &[u8])
@@ -19,13 +19,13 @@ fn absorb_part<E: Engine>(engine: &mut E, part: &[u8])
 }
 
 // From zero, whatever the engine hashed before: header, body and length block.
-pub(crate) fn hash_message<E: Engine>(engine: &mut E, header: &[u8], body: &[u8]) -> Block
-    ensures answer { result ≡ hash_of (E.subkey_of engine.old) header.now body.now }
-    ensures engine { Ran E.Engine engine.old header.now body.now engine.new }
+pub(crate) fn hash_message<E: Engine>(engine: &mut E, message: Message) -> Block
+    ensures answer { result ≡ hash_of (E.subkey_of engine.old) message.entry.header.now message.entry.body.now }
+    ensures engine { Ran E.Engine engine.old message.entry.header.now message.entry.body.now engine.new }
 {
     engine.resume(Block::zero());
-    absorb_part(engine, header);
-    absorb_part(engine, body);
-    engine.absorb(block_of_byte_counts(header.len() as u64, body.len() as u64));
+    absorb_part(engine, message.header);
+    absorb_part(engine, message.body);
+    engine.absorb(block_of_byte_counts(message.header.len() as u64, message.body.len() as u64));
     engine.value()
 }

@@ -4,7 +4,5 @@
 mod check;
 mod compare;
 mod hash;
-mod tagged;
 
 pub use check::{check_tag, tag_message};
-pub use tagged::Tagged;

@@ -5,15 +5,8 @@ use crate::jobs::print_jobs;
 use crate::trials::print_made;
 use field::Block;
 use hexadecimal::{parse_block, parse_bytes};
-use message::{Digest, hash_and_tag};
+use message::Message;
 use std::alloc::Global;
-
-// A header and a body, hashed together.
-#[derive(Clone, Copy)]
-pub(crate) struct Message<'a> {
-    pub(crate) header: &'a [u8],
-    pub(crate) body: &'a [u8],
-}
 
 // What a case hashes, and by which key.
 #[derive(Drop)]
@@ -48,10 +41,6 @@ impl Case {
             body: &self.body,
         }
     }
-
-    fn digest(&self) -> Result<Digest, Fault> {
-        Ok(hash_and_tag(self.subkey, self.pad, &self.header, &self.body)?)
-    }
 }
 
 // Prints what a case gives and a polynomial for its subkey, and answers whether hash and tag are as published.
@@ -62,13 +51,12 @@ pub(crate) fn compare(rt: &HostRuntime, line: &str, more: bool) -> Result<bool, 
         return Err(Fault::WrongCount);
     };
     let case = Case::parse(rt.alloc(), [subkey, pad, header, body])?;
-    let digest = case.digest()?;
+    let digest = case.message().hash_and_tag(case.subkey, case.pad)?;
     let same = digest.hash == parse_block(hash)? && digest.tag == parse_block(tag)?;
     let verdict = if same { "as published" } else { "DIFFERS" };
     println!(rt;
-        "case {number}: hash {:032x} tag {:032x} {verdict}",
-        digest.hash.bits(),
-        digest.tag.bits()
+        "case {number}: hash {} tag {} {verdict}",
+        digest.hash, digest.tag
     )?;
     print_made(rt, case.subkey)?;
     print_engines(rt, &case, digest.hash)?;

@@ -1,10 +1,10 @@
 // The same blocks through every engine: step, division, and a pair that switches on the way.
-use crate::case::{Case, Message};
+use crate::case::Case;
 use crate::fault::Fault;
-use crate::trials::made;
+use crate::trials::accepted;
 use engine::{Division, Engine, Pair, Step};
 use field::{Block, Element};
-use message::{block_of, block_of_byte_counts};
+use message::{Message, block_of, block_of_byte_counts};
 use std::alloc::{AllocError, Global};
 use std::iter;
 
@@ -43,7 +43,7 @@ struct Hashes {
 
 impl Hashes {
     fn of(subkey: Block, blocks: &[Block], every: usize) -> Result<Hashes, Fault> {
-        let polynomial = made(subkey)?.polynomial;
+        let polynomial = accepted(subkey)?;
         let mut pair = Pair::new(Step::new(subkey), Division::new(polynomial));
         Ok(Hashes {
             step: hash(&mut Step::new(subkey), blocks, every),
@@ -82,8 +82,8 @@ pub(crate) fn print_long(rt: &HostRuntime, subkey: Block) -> Result<(), Fault> {
         let hashes = Hashes::of(subkey, &blocks, every)?;
         let verdict = verdict(hashes.all(hashes.step));
         println!(rt;
-            "engines {verdict} on 300 blocks, switched after every {every}: {:032x}",
-            hashes.step.bits()
+            "engines {verdict} on 300 blocks, switched after every {every}: {}",
+            hashes.step
         )?;
     }
     Ok(())

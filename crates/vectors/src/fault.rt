@@ -9,9 +9,9 @@ use thiserror::Error;
 pub(crate) enum Fault {
     #[error("a case is seven words")]
     WrongCount,
-    #[error("bad hexadecimal: {0:?}")]
+    #[error("{0}")]
     BadHex(#[from] HexFault),
-    #[error("refused: {0:?}")]
+    #[error("{0}")]
     Refused(#[from] Refusal),
     #[error("no memory")]
     NoMemory,

@@ -3,6 +3,7 @@ use crate::fault::Fault;
 use engine::Step;
 use field::{Block, Element};
 use format::Lengths;
+use message::Message;
 use sealed::{check_file, write_file};
 use std::alloc::Global;
 
@@ -17,7 +18,11 @@ fn sealed_blocks(heap: Global, header: usize, body: usize) -> Result<u32, Fault>
     let body = vec![in heap; 0u8; body]?;
     let mut file = vec![in heap; 0u8; LARGEST]?;
     let step = Step::new(Block::one());
-    let sealed = write_file(step, Block::zero(), &header, &body, &mut file).answer?;
+    let message = Message {
+        header: &header,
+        body: &body,
+    };
+    let sealed = write_file(step, Block::zero(), message, &mut file).answer?;
     let size = (sealed.blocks as usize).saturating_mul(512).min(LARGEST);
     let wanted = Lengths {
         header: header.len() as u64,
@@ -34,9 +39,8 @@ fn sealed_blocks(heap: Global, header: usize, body: usize) -> Result<u32, Fault>
 fn print_file(rt: &HostRuntime, header: usize, body: usize) -> Result<(), Fault> {
     print!(rt; "file of header {header} and body {body}: ")?;
     match sealed_blocks(rt.alloc(), header, body) {
-        Ok(blocks) => println!(rt; "{blocks} blocks, written and accepted")?,
         Err(Fault::Refused(refusal)) => println!(rt; "refused {}", refusal.number())?,
-        Err(fault) => return Err(fault),
+        answer => println!(rt; "{} blocks, written and accepted", answer?)?,
     }
     Ok(())
 }

@@ -1,11 +1,12 @@
 // The published cases as jobs: fed in pieces, with a switch after each, over a pair and over a pair of pairs.
-use crate::case::{Case, Message};
+use crate::case::Case;
 use crate::engines::{blocks_of, hash, verdict};
 use crate::fault::Fault;
-use crate::trials::made;
+use crate::trials::accepted;
 use engine::{Division, Engine, Pair, Step};
 use field::{Block, Element};
 use job::{Call, Closed, hash_difference, replay};
+use message::Message;
 use polynomial::Accepted;
 use std::alloc::{AllocError, Global};
 
@@ -52,7 +53,7 @@ impl Case {
     fn tags_agree(
         &self,
         heap: Global,
-        polynomial: Accepted,
+        polynomial: Accepted<Block>,
         cut: usize,
         tag: Block,
     ) -> Result<bool, Fault> {
@@ -83,7 +84,7 @@ impl Case {
 // Prints whether the jobs of a published case end as published.
 pub(crate) fn print_jobs(rt: &HostRuntime, case: &Case, tag: Block) -> Result<(), Fault> {
     let heap = rt.alloc();
-    let polynomial = made(case.subkey)?.polynomial;
+    let polynomial = accepted(case.subkey)?;
     let mut agree = case.difference_agrees(heap)?;
     for cut in CUTS {
         agree = case.tags_agree(heap, polynomial, cut, tag)? && agree;

@@ -1,7 +1,7 @@
 // Trials and makings, compared with plain evaluations.
 use crate::fault::Fault;
 use field::{Block, Element, Nibble};
-use polynomial::{Binary, Trial, make_polynomial, try_polynomial, try_proposal};
+use polynomial::{Accepted, Binary, make_polynomial, try_polynomial};
 
 // A key and a proposed polynomial, in four bits each.
 #[derive(Clone, Copy)]
@@ -22,6 +22,7 @@ impl NibbleTrial {
     fn plain_value(self) -> Nibble {
         let mut power = Nibble::one();
         let mut sum = Nibble::zero();
+        // The number is the power, no index.
         for k in 0..4u8 {
             if (self.proposal.bits() >> k) & 1 == 1 {
                 sum = sum.plus(power);
@@ -33,7 +34,7 @@ impl NibbleTrial {
 
     fn accepts(self) -> bool {
         let mut scratch = [Nibble::zero(); 4];
-        try_proposal(self.key, self.proposal, &mut scratch).is_ok()
+        try_polynomial(self.key, self.proposal, &mut scratch).is_ok()
     }
 
     // Whether the trial says what the plain value says.
@@ -59,21 +60,18 @@ pub(crate) fn print_trials(rt: &HostRuntime) -> Result<(), Fault> {
     Ok(())
 }
 
-// The trial of the maker's polynomial for a subkey.
-pub(crate) fn made(subkey: Block) -> Result<Trial, Fault> {
+// The maker's polynomial for a subkey, as an accepted one.
+pub(crate) fn accepted(subkey: Block) -> Result<Accepted<Block>, Fault> {
     let mut scratch = [Block::zero(); 128];
-    let made = make_polynomial(subkey, &mut scratch)?;
-    Ok(try_polynomial(subkey, made, &mut scratch)?)
+    Ok(Accepted::make(subkey, &mut scratch)?)
 }
 
-// The maker's polynomial for a subkey, with the weight that the trial of it answers.
+// The maker's polynomial for a subkey, with the weight that the trial of it answers. The trial is what is looked at here, so that
+// `Accepted::make`, which needs none, does not do.
 pub(crate) fn print_made(rt: &HostRuntime, subkey: Block) -> Result<(), Fault> {
-    let trial = made(subkey)?;
-    println!(rt;
-        "maker {:032x}: {:032x} accepted, weight {}",
-        subkey.bits(),
-        trial.polynomial.coefficients().bits(),
-        trial.weight
-    )?;
+    let mut scratch = [Block::zero(); 128];
+    let made = make_polynomial(subkey, &mut scratch)?;
+    let trial = try_polynomial(subkey, made, &mut scratch)?;
+    println!(rt; "maker {subkey}: {made} accepted, weight {}", trial.weight)?;
     Ok(())
 }

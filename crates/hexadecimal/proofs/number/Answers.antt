@@ -1,6 +1,6 @@
 use Rattle.std.proofs.Common.{◌≡◌, ℕ, zero, suc, ◌+◌, ◌*◌, ◌^◌, ◌<◌, ◌≤◌, List, [], ◌∷◌, map, length, get_or, take, refl, ap, ◌∙◌, arith, lit<}
 use native.Mathlib.Nat.{pow-le-pow_right}
-use Rattle.std.proofs.lemmas.List.{map_more, take_all, length-map, length-take-le}
+use Rattle.std.proofs.lemmas.List.{map_more, length-map, length-take-le}
 use Rattle.field.specs.Digits.{numeral}
 use Rattle.field.proofs.Digits.{AreDigits, numeral_append, numeral_lt}
 use Rattle.hexadecimal.specs.Digits.{value_of, number_in}
@@ -35,16 +35,13 @@ unfolding numeral
 loop-c-init c = refl
 
 pub overflow_mul-sum : goal.overflow_mul-sum
-overflow_mul-sum c = omega (arith, c.loop-c.invariant, room c.args.word.now c.loop-c.c-index c.loop-c-test.true c.requires)
+overflow_mul-sum c =
+    let spare = room c.args.word.now c.loop-c.c-index c.loop-c-test.true c.requires in omega (arith, c.loop-c.invariant, spare)
 
 pub overflow_add-sum : goal.overflow_add-sum
 overflow_add-sum c =
-    let spare = room c.args.word.now c.loop-c.c-index c.loop-c-test.true c.requires in
-    omega (arith, c.loop-c.invariant, spare, value_lt (get_or c.args.word.now c.loop-c.c-index 0))
+    let spare = room c.args.word.now c.loop-c.c-index c.loop-c-test.true c.requires in omega (arith, c.loop-c.invariant, spare)
 
 pub loop-c-preserved : goal.loop-c-preserved
 loop-c-preserved c =
     omega (arith, c.loop-c.invariant, one_more c.args.word.now c.loop-c.c-index c.loop-c-test.true)
-
-pub returns : goal.returns
-returns c = c.loop-c.invariant ∙ ap number_in (take_all c.loop-c.c-index c.args.word.now c.loop-c-test.false)

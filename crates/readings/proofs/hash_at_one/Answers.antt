@@ -12,4 +12,4 @@ returns c =
     let one : c.one-one.result ≡ first 0x80 = c.one-one.ensures ∙ same_block _ _ refl in
     ap hash_in
     (sym c.in_ok-hash_and_tag.was ∙ c.hash_and_tag.ensures.value
-    ∙ ap (λ (b : Block). answer b b c.args.header.now c.args.body.now) one)
+    ∙ ap (λ (b : Block). answer b b c.args.message.header.now c.args.message.body.now) one)

@@ -5,13 +5,13 @@ use Rattle.std.proofs.lemmas.Bool.{cond-false}
 use Rattle.field.specs.Bytes.{bytes_of}
 use Rattle.field.specs.declared.kinds.Block.{Block}
 use Rattle.field.proofs.Digits.{length_digits}
+use Rattle.message.specs.Answer.{digest_of}
+use Rattle.message.specs.declared.digest.Digest.{Digest}
 use Rattle.message.specs.Hash.{hash_of, tag_of}
 use Rattle.message.proofs.Within.{accepted_value, after_lengths}
 use Rattle.engine.specs.declared.step.Step.{Step}
 use Rattle.refusal.specs.declared.Refusal.{Refusal}
 use Rattle.refusal.specs.declared.Refusal.TheVariants.{OutputTooShort}
-use Rattle.tag.specs.Tags.{tagged_of}
-use Rattle.tag.specs.declared.tagged.Tagged.{Tagged}
 use Rattle.logger.specs.Calls.{seal_answer, written_if}
 use Rattle.logger.proofs.seal.seal.Goals as goal
 
@@ -31,24 +31,24 @@ pub returns : goal.returns
 returns c =
     let subkey : Block = c.args.subkey in
     let pad : Block = c.args.pad in
-    let header : List ℕ = c.args.header.now in
-    let body : List ℕ = c.args.body.now in
+    let header : List ℕ = c.args.message.header.now in
+    let body : List ℕ = c.args.message.body.now in
     let output : List ℕ = c.args.output.now in
-    let tagged : Tagged = c.in_ok-tagged.tagged in
+    let digest : Digest = c.in_ok-digest.digest in
     let hash : List ℕ = bytes_of (hash_of subkey header body) in
     let tag : List ℕ = bytes_of (tag_of subkey pad header body) in
-    let said = c.in_ok-tagged.ensures.answer in
-    let same : tagged ≡ tagged_of subkey pad header body =
-    accepted_value header body tagged (tagged_of c.new-engine.result.subkey pad header body) said
-    ∙ ap (λ (e : Step). tagged_of e.subkey pad header body) c.new-engine.ensures in
+    let said = c.in_ok-digest.ensures.answer in
+    let same : digest ≡ digest_of subkey pad header body =
+    accepted_value header body digest (digest_of c.new-engine.result.subkey pad header body) said
+    ∙ ap (λ (e : Step). digest_of e.subkey pad header body) c.new-engine.ensures in
     let first : c.copy_from_slice.new.self ≡ hash =
-    c.copy_from_slice.ensures.after ∙ c.to_bytes.ensures.value ∙ ap (λ (t : Tagged). bytes_of t.hash) same in
+    c.copy_from_slice.ensures.after ∙ c.to_bytes.ensures.value ∙ ap (λ (d : Digest). bytes_of d.hash) same in
     let second : c.copy_from_slice-2.new.self ≡ tag =
-    c.copy_from_slice-2.ensures.after ∙ c.to_bytes-2.ensures.value ∙ ap (λ (t : Tagged). bytes_of t.tag) same in
+    c.copy_from_slice-2.ensures.after ∙ c.to_bytes-2.ensures.value ∙ ap (λ (d : Digest). bytes_of d.tag) same in
     let accepted : ok ≡ seal_answer header body output =
     sym (cond-false _ _ _ (le-ltb (length output) 32 (omega arith)))
     ∙ after_lengths (cond (ltb (length output) 32) (Err OutputTooShort) ok) header body tt ok
-    (sym c.in_ok-check_lengths.was ∙ c.check_lengths.ensures) in
+    (sym c.in_ok-check_lengths.was ∙ c.check_lengths.ensures.answer) in
     record {
       answer = accepted;
       output =

@@ -1,5 +1,6 @@
-use Rattle.std.proofs.Common.{◌≡◌, ℕ, ◌<◌, min, List, ◌++◌, length, sym, ap, ◌∙◌, subst, ap₂}
+use Rattle.std.proofs.Common.{◌≡◌, ℕ, ◌<◌, min, List, ◌++◌, length, sym, ap, ◌∙◌, subst, ap₂, arith}
 use Rattle.std.specs.Slice.Iter.{chunks_rest}
+use Rattle.std.proofs.lemmas.List.{take_all}
 use Rattle.field.specs.Bytes.{block_of}
 use Rattle.field.specs.Evaluation.{absorbed}
 use Rattle.field.specs.Kinds.{block_ring}
@@ -19,9 +20,10 @@ loop-piece-preserved c =
     let size : length piece ≡ min 16 (length (piece ++ more)) =
     went.1.1 ∙ ap₂ (λ (n : ℕ) (xs : List ℕ). min n (length xs)) c.loop-piece.invariant.1 joins in
     let some : 0 < length (piece ++ more) = subst (λ (xs : List ℕ). 0 < length xs) joins went.1.2 in
+    let made = c.block_of.ensures ∙ ap (λ (xs : List ℕ). block_of (filled xs)) (take_all 16 piece (omega (arith, size))) in
     let taken : c.times-value.result ≡ block_ring.product (block_ring.sum value (block_of (filled piece))) subkey =
     c.times-value.ensures
-    ∙ ap (λ (v : Block). block_ring.product v subkey) (c.plus.ensures ∙ ap (block_ring.sum value) c.padded.ensures) in (
+    ∙ ap (λ (v : Block). block_ring.product v subkey) (c.plus.ensures ∙ ap (block_ring.sum value) made) in (
       ap (λ (v : Block). absorbed block_ring subkey v (blocks more)) taken
           ∙ sym (ap (λ (xs : List ℕ). absorbed block_ring subkey value (blocks xs)) joins
           ∙ ap (absorbed block_ring subkey value) (blocks_more piece more size some))

@@ -3,8 +3,8 @@ use Rattle.polynomial.specs.Steps.{raised}
 use Rattle.polynomial.proofs.maker.multiply.Given as goal
 
 -- what is written and what the rest will give make the whole, and the rest is not touched yet
-abbrev pub invariant-loop-j : goal.invariant-loop-j
-invariant-loop-j g l =
-    (raised g.K.Element l.root g.K.Element.zero (take l.degree l.initial.scratch) g.K.Element.one
-    ≡ take l.j l.scratch ++ raised g.K.Element l.root l.below (drop l.j (take l.degree l.initial.scratch)) g.K.Element.one)
-    × (drop l.j l.scratch ≡ drop l.j l.initial.scratch)
+abbrev pub invariant-loop-coefficient : goal.invariant-loop-coefficient
+invariant-loop-coefficient g l =
+    (raised g.E.Element l.root g.E.Element.zero l.initial.coefficients g.E.Element.one
+    ≡ take l.coefficient-index l.coefficients ++ raised g.E.Element l.root l.below (drop l.coefficient-index l.initial.coefficients) g.E.Element.one)
+    × (drop l.coefficient-index l.coefficients ≡ drop l.coefficient-index l.initial.coefficients)

@@ -1,6 +1,6 @@
-use Rattle.std.proofs.Common.{◌≡◌, ℕ, ◌+◌, ◌<◌, List, length, take, sym, ap, ◌∙◌, subst, arith}
+use Rattle.std.proofs.Common.{ℕ, ◌+◌, ◌<◌, List, length, sym, ap, ◌∙◌, subst, refl, arith}
 use Rattle.std.proofs.lemmas.List.FromFn.{fill_by_all}
-use Rattle.std.proofs.lemmas.List.{get_or_read, get_or-take, length-take-le}
+use Rattle.std.proofs.lemmas.List.{get_or_read}
 use Rattle.polynomial.specs.Polynomials.{stored, element}
 use Rattle.polynomial.proofs.Reading.{ReadTo, read_zero, read_one, one_from_sum, sum_from_one}
 use Rattle.polynomial.proofs.maker.read_bits.Goals as goal
@@ -19,8 +19,8 @@ loop-k-preserved g c =
     let even = g.met.K.Binary.even in
     let xs : List g.row.K.Denot = c.args.coefficients.now in
     let k : ℕ = c.loop-k.k in
-    let below : k < g.K.Binary.width = omega (arith, c.width-k-end.ensures) in
-    let within : k < length xs = omega (arith, c.requires) in
+    let within : k < length xs = omega arith in
+    let below : k < g.K.Binary.width = omega (arith, c.requires) in
     let read = sym (get_or_read xs k c.index-coefficients-k.result within c.index-coefficients-k.is m.zero) in
     elim c.if-not-is_zero.branch [
       | then-not-is_zero+else-not-is_zero-2 w ↦
@@ -39,13 +39,10 @@ returns-then-not-is_zero-2 g c =
     let m = g.K.Element in
     let xs : List g.row.K.Denot = c.args.coefficients.now in
     let k : ℕ = c.loop-k.k in
-    let width : ℕ = g.K.Binary.width in
-    let below : k < width = omega (arith, c.width-k-end.ensures) in
-    let within : k < length xs = omega (arith, c.requires) in
-    let long : length (take width xs) ≡ width = length-take-le width xs c.requires in
-    let read = get_or_read xs k c.index-coefficients-k.result within c.index-coefficients-k.is m.zero ∙ sym (get_or-take width xs k m.zero below) in (
+    let within : k < length xs = omega arith in
+    let read = get_or_read xs k c.index-coefficients-k.result within c.index-coefficients-k.is m.zero in (
       k,
-      subst (λ n. k < n) (sym long) below,
+      within,
       λ zero. c.if-not-is_zero.ensures (read ∙ zero),
       λ one. c.if-not-is_zero-2.ensures
           (c.plus.ensures ∙ ap (m.sum c.index-coefficients-k.result) c.one.ensures
@@ -57,8 +54,6 @@ unfolding stored
 returns g c =
     let m = g.K.Element in
     let xs : List g.row.K.Denot = c.args.coefficients.now in
-    let width : ℕ = g.K.Binary.width in
-    let end : c.loop-k.k ≡ width = omega (arith, c.width-k-end.ensures) in
     sym
-    (fill_by_all (λ k. element m (g.K.Binary.bits c.loop-k.proposal k)) (take width xs) width m.zero (length-take-le width xs c.requires)
-    (λ k early. get_or-take width xs k m.zero early ∙ c.loop-k.invariant.0 k (omega arith)))
+    (fill_by_all (λ k. element m (g.K.Binary.bits c.loop-k.proposal k)) xs (length xs) m.zero refl
+    (λ k early. c.loop-k.invariant.0 k (omega arith)))

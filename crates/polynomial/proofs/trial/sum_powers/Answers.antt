@@ -1,7 +1,6 @@
-use Rattle.std.proofs.Common.{◌≡◌, ℕ, ◌<◌, Bool, cond, List, map, get_or, take, sym, ap, ◌∙◌, ap₂, zero-add, arith}
+use Rattle.std.proofs.Common.{◌≡◌, ℕ, ◌<◌, Bool, cond, List, map, length, get_or, sym, ap, ◌∙◌, ap₂, zero-add, arith}
 use Rattle.std.specs.List.{range_with_len}
 use Rattle.std.proofs.lemmas.List.FromFn.{get_or-map-range_with_len}
-use Rattle.std.proofs.lemmas.List.{get_or-take}
 use Rattle.field.specs.Evaluation.{power}
 use Rattle.polynomial.specs.Polynomials.{value_at, stored}
 use Rattle.polynomial.proofs.Values.{stored_more}
@@ -9,21 +8,20 @@ use Rattle.polynomial.proofs.trial.sum_powers.Goals as goal
 use Rattle.polynomial.proofs.trial.sum_powers.Goals.{then-bit, else-bit}
 
 -- an element of the powers
-at : {K : Type 0} (xs : List K) (f : ℕ → K) (n k : ℕ) (x : K) → k < n → take n xs ≡ map f (range_with_len 0 n) → x ≡ get_or xs k x → x ≡ f k
-at xs f n k x below same read =
-    read ∙ sym (get_or-take n xs k x below) ∙ ap (λ ys. get_or ys k x) same ∙ get_or-map-range_with_len f 0 n k k x below (zero-add k)
+at : {K : Type 0} (xs : List K) (f : ℕ → K) (n k : ℕ) (x : K) → k < n → xs ≡ map f (range_with_len 0 n) → x ≡ get_or xs k x → x ≡ f k
+at xs f n k x below same read = read ∙ ap (λ ys. get_or ys k x) same ∙ get_or-map-range_with_len f 0 n k k x below (zero-add k)
 
 pub loop-k-preserved : goal.loop-k-preserved
 loop-k-preserved g c = λ key powers.
     let m = g.K.Element in
     let k : ℕ = c.loop-k.k in
     let bits : ℕ → Bool = g.K.Binary.bits c.args.proposal in
-    let below : k < g.K.Binary.width = omega (arith, c.width-k-end.ensures) in
+    let below : k < length c.args.powers.now = omega arith in
     let before = c.loop-k.invariant key powers in
     let more = stored_more m g.met.K.Element.ring bits key k in
     elim c.if-bit.branch [
       | then-bit w ↦
-          let read = at c.args.powers.now (power m key) g.K.Binary.width k w.index-powers-k.result below powers w.index-powers-k.is in
+          let read = at c.args.powers.now (power m key) (length c.args.powers.now) k c.index-powers-k.result below powers c.index-powers-k.is in
           w.sum-is ∙ w.plus-sum.ensures ∙ ap₂ m.sum before read
           ∙ ap (λ (b : Bool). m.sum (value_at m key (stored m k bits)) (cond b (power m key k) m.zero)) (sym w.if-bit.true ∙ c.bit.ensures)
           ∙ sym more
@@ -36,8 +34,3 @@ loop-k-preserved g c = λ key powers.
 pub loop-k-init : goal.loop-k-init
 unfolding stored
 loop-k-init g c = λ key powers. c.zero-sum.ensures
-
-pub returns : goal.returns
-returns g c = λ key powers.
-    let end : c.loop-k.k ≡ g.K.Binary.width = omega (arith, c.width-k-end.ensures) in
-    c.loop-k.invariant key powers ∙ ap (λ (n : ℕ). value_at g.K.Element key (stored g.K.Element n (g.K.Binary.bits c.args.proposal))) end

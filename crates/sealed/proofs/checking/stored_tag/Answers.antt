@@ -7,4 +7,4 @@ use Rattle.sealed.proofs.checking.stored_tag.Goals as goal
 pub returns : goal.returns
 returns c =
     let b : Block = c.from_bytes.result in
-    c.bits.ensures ∙ sym (numeral_digits 256 (lit< tt) 16 b.bits ∙ mod-eq_of_lt b.fits) ∙ ap (numeral 256) (c.from_bytes.ensures.back ∙ c.copy_from_slice.ensures.after)
+    sym (numeral_digits 256 (lit< tt) 16 b.bits ∙ mod-eq_of_lt b.fits) ∙ ap (numeral 256) (c.from_bytes.ensures.back ∙ c.copy_from_slice.ensures.after)

@@ -5,8 +5,8 @@ use Rattle.sealed.proofs.Running.{body_none, header_none, ran_whole}
 use Rattle.sealed.proofs.Scans.{data_in_file}
 use Rattle.sealed.proofs.hashing.hash_file.Goals as goal
 
-pub feed_body-requires : goal.feed_body-requires
-feed_body-requires g c = let file : List ℕ = c.args.file.now in omega (arith, data_in_file 2 file, (sized file c.requires.size).few)
+pub feed_part-requires-2 : goal.feed_part-requires-2
+feed_part-requires-2 g c = let file : List ℕ = c.args.file.now in omega (arith, data_in_file 2 file, (sized file c.requires.size).few)
 
 pub returns : goal.returns
 returns g c =
@@ -17,12 +17,12 @@ returns g c =
     let header : List ℕ = header_in c.args.file.now in
     let body : List ℕ = body_in c.args.file.now in
     let s = c.start-job.result in
-    let j = c.feed_header.new.job in
+    let j = c.feed_part.new.job in
     let b = c.turn-job.result in
-    let t = c.feed_body.new.job in
-    let first = c.feed_header.ensures h given s.filling.engine (header_none m h given s c.start-job.ensures.holds) in
+    let t = c.feed_part-2.new.job in
+    let first = c.feed_part.ensures h given s.filling.engine (header_none m h given s c.start-job.ensures.holds) in
     let turned = body_none m h given b header (c.turn-job.ensures.holds h given header first.holds) in
-    let second = c.feed_body.ensures h given b.filling.engine header turned in
+    let second = c.feed_part-2.ensures h given b.filling.engine header turned in
     let closes = c.close.ensures.closes h given header body second.holds in
     record {
       ran = ran_whole m engine s.filling.engine c.args.pad j b t c.close.result header body c.start-job.ensures.whole first c.turn-job.ensures.whole second c.close.ensures.whole closes;

@@ -1,4 +1,5 @@
-use Rattle.std.proofs.Common.{◌≡◌, ℕ, ◌+◌, ◌-◌, ◌/◌, ◌%◌, List, [], ◌∷◌, length, get_or, replicate, ap, ◌∙◌, ap₂, arith}
+use Rattle.std.proofs.Common.{◌≡◌, ℕ, ◌+◌, ◌-◌, ◌/◌, ◌%◌, List, [], ◌∷◌, length, get_or, replicate, ap, ◌∙◌, arith}
+use Rattle.format.specs.Kinds.{number_of}
 use Rattle.sealed.proofs.Layers.{room_left, block_laid}
 use Rattle.sealed.proofs.laying.fill_block.Goals as goal
 
@@ -6,7 +7,7 @@ pub returns : goal.returns
 returns c =
     let block : List ℕ = c.args.block.now in
     let number : ℕ = c.args.number in
-    let kind : ℕ = c.args.kind in
+    let kind : ℕ = number_of c.args.kind in
     let bytes : List ℕ = c.args.data.now in
     let size : ℕ = length bytes in
     let w₁ : List ℕ = c.copy_from_slice.new.self in
@@ -15,7 +16,7 @@ returns c =
     let w₄ : List ℕ = c.copy_from_slice-3.new.self in
     let wrote₁ : w₁ ≡ number / 256 % 256 ∷ (number % 256 ∷ (kind ∷ (0 ∷ (size / 256 % 256 ∷ (size % 256 ∷ []))))) =
     c.copy_from_slice.ensures.after
-    ∙ ap₂ (λ (xs ys : List ℕ). get_or xs 0 0 ∷ (get_or xs 1 0 ∷ (kind ∷ (0 ∷ (get_or ys 0 0 ∷ (get_or ys 1 0 ∷ [])))))) c.to_be_bytes.ensures c.to_be_bytes-2.ensures in
+    ∙ (λ i. get_or (c.to_be_bytes.ensures i) 0 0 ∷ (get_or (c.to_be_bytes.ensures i) 1 0 ∷ (c.number.ensures i ∷ (0 ∷ (get_or (c.to_be_bytes-2.ensures i) 0 0 ∷ (get_or (c.to_be_bytes-2.ensures i) 1 0 ∷ [])))))) in
     let wrote₂ = c.copy_from_slice-2.ensures.after in
     let long : 6 + size - 6 ≡ size = omega arith in
     let left : 508 - (6 + size) ≡ 502 - size = omega arith in

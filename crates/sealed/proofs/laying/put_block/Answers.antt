@@ -1,19 +1,15 @@
-use Rattle.std.proofs.Common.{◌≡◌, ℕ, ◌+◌, ◌-◌, ◌*◌, List, ◌++◌, length, take, ap, ◌∙◌, arith}
-use Rattle.std.proofs.lemmas.Slice.{take-put_mid, drop-put_mid}
+use Rattle.std.proofs.Common.{◌≡◌, ℕ, ◌+◌, ◌-◌, ◌*◌, List, length, ap, ◌∙◌, arith}
+use Rattle.std.proofs.lemmas.Slice.{drop-put_mid}
+use Rattle.format.specs.Kinds.{number_of}
 use Rattle.sealed.proofs.Layers.{block_length}
 use Rattle.sealed.proofs.laying.put_block.Goals as goal
 
-pub returns : goal.returns
-returns c =
+pub returns-clause-back : goal.returns-clause-back
+returns-clause-back c =
     let out : List ℕ = c.args.output.now in
     let n : ℕ = c.args.number in
     let k : ℕ = 512 * n + 512 - 512 * n in
     let block : List ℕ = c.fill_block.new.block in
-    let whole : length block ≡ 512 = ap length c.fill_block.ensures ∙ block_length n c.args.kind c.args.data.now c.requires.fits in
+    let whole : length block ≡ 512 = ap length c.fill_block.ensures ∙ block_length n (number_of c.args.kind) c.args.data.now c.requires.fits in
     let size : length block ≡ k = omega (arith, whole) in
-    record {
-      front =
-          take-put_mid (512 * n) k out block (512 * (n + 1)) (omega (arith, size)) (omega arith)
-          ∙ ap (λ (xs : List ℕ). take (512 * n) out ++ xs) c.fill_block.ensures;
-      back = drop-put_mid (512 * n) k out block (512 * (n + 1)) (omega arith) (omega arith) size;
-    }
+    drop-put_mid (512 * n) k out block (512 * (n + 1)) (omega arith) (omega arith) size

@@ -1,5 +1,5 @@
-use Rattle.std.proofs.Common.{ℕ, List, sym, arith}
-use Rattle.std.proofs.lemmas.List.{take_rest}
+use Rattle.std.proofs.Common.{ℕ, List, drop, sym, arith}
+use Rattle.std.proofs.lemmas.List.{length-drop, take_all}
 use Rattle.format.specs.Faults.{kind_in, reserve_in}
 use Rattle.sealed.proofs.Numbers.{two_bytes, two_bytes_at}
 use Rattle.sealed.proofs.prefix.read_prefix.Goals as goal
@@ -11,5 +11,5 @@ returns c =
     let used = sym (two_bytes_at 4 b (omega arith)) in
     record {
       bytes = λ i. record { number = number i; kind = kind_in b; reserve = reserve_in b; used = used i };
-      rest = take_rest b 6;
+      rest = take_all 506 (drop 6 b) (omega (arith, length-drop 6 b));
     }

@@ -1,26 +1,20 @@
-use Rattle.std.proofs.Common.{◌≡◌, ℕ, ◌+◌, ◌*◌, ◌≤◌, List, ◌++◌, map, length, take, drop, Ok, Result, sym, ap, ◌∙◌, ap₂, arith}
+use Rattle.std.proofs.Common.{◌≡◌, ℕ, ◌+◌, ◌*◌, ◌≤◌, List, ◌++◌, map, length, take, drop, sym, ap, ◌∙◌, ap₂, arith}
 use Rattle.std.proofs.lemmas.List.{length-take-le, take-append-drop}
 use Rattle.field.specs.Bytes.{bytes_of}
 use Rattle.field.specs.declared.kinds.Block.{Block}
-use Rattle.message.specs.Hash.{hash_of, tag_of}
-use Rattle.refusal.specs.declared.Refusal.{Refusal}
+use Rattle.message.specs.Hash.{tag_of}
 use Rattle.format.specs.Layout.{block_bytes, content, contents, laid, pieces, sealed}
-use Rattle.format.specs.Verdict.{after}
 use Rattle.format.proofs.Laws.{reopens}
-use Rattle.sealed.specs.declared.written.Sealed.{Sealed}
 use Rattle.sealed.proofs.Layers.{drop_further, room_enough, whole_laid, limits_kept}
 use Rattle.sealed.proofs.writing.write_file.Goals as goal
 
-abbrev done : ℕ → Block → Block → Result Sealed Refusal
-done n hash tag = Ok record { blocks = n; hash = hash; tag = tag }
-
-pub returns : goal.returns
+pub returns-clause-output : goal.returns-clause-output
 unfolding sealed
-returns g c =
+returns-clause-output g c =
     let h : Block = g.E.Engine.subkey_of c.args.engine in
     let pad : Block = c.args.pad in
-    let header : List ℕ = c.args.header.now in
-    let body : List ℕ = c.args.body.now in
+    let header : List ℕ = c.args.message.header.now in
+    let body : List ℕ = c.args.message.body.now in
     let entry : List ℕ = c.args.output.now in
     let o₁ : List ℕ = c.put_part-next.new.output in
     let o₂ : List ℕ = c.put_part-next-2.new.output in
@@ -41,12 +35,13 @@ returns g c =
     third.back ∙ drop_further (512 * k) end o₂ o₁ (omega arith) second.back ∙ drop_further (512 * n) end o₁ entry (omega (arith, second.next)) first.back in
     let kept : length o₃ ≡ length entry = c.put_block.auto.output ∙ c.put_part-next-2.auto.output ∙ c.put_part-next.auto.output in
     let enough = room_enough (length header) (length body) (length entry) c.in-Ok.count c.in-Ok.ensures in
-    let limits = limits_kept (length header) (length body) (length entry) c.in-Ok.count c.in-Ok.ensures in
     let room : end ≤ length o₃ = omega (arith, kept, enough, first.next, second.next) in
     let size : end ≡ length file = sym (length-take-le end o₃ room) ∙ ap length written in
-    record {
-      answer = ap₂ (done c.in-Ok.count) ran.hash ran.tag ∙ ap (λ (r : Result ℕ Refusal). after r (λ j. done j (hash_of h header body) (tag_of h pad header body))) c.in-Ok.ensures;
-      output = sym (take-append-drop end o₃) ∙ ap₂ (λ (xs ys : List ℕ). xs ++ ys) written (left ∙ ap (λ (j : ℕ). drop j entry) size);
-      reopens = reopens h pad header body limits.0 limits.1;
-      engine = ran.ran;
-    }
+    sym (take-append-drop end o₃) ∙ ap₂ (λ (xs ys : List ℕ). xs ++ ys) written (left ∙ ap (λ (j : ℕ). drop j entry) size)
+
+pub returns-clause-reopens : goal.returns-clause-reopens
+returns-clause-reopens g c =
+    let header : List ℕ = c.args.message.header.now in
+    let body : List ℕ = c.args.message.body.now in
+    let limits = limits_kept (length header) (length body) (length c.args.output.now) c.in-Ok.count c.in-Ok.ensures in
+    reopens (g.E.Engine.subkey_of c.args.engine) c.args.pad header body limits.0 limits.1

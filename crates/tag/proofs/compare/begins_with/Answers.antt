@@ -1,12 +1,12 @@
-use Rattle.std.proofs.Common.{◌≡◌, ◌≤◌, length, ◌∙◌, arith, rules}
-use Rattle.tag.proofs.Comparing.{step_on, at_end}
+use Rattle.std.proofs.Common.{ap, length, ◌∙◌, arith}
+use Rattle.tag.proofs.Comparing.{step_on}
 use Rattle.tag.proofs.compare.begins_with.Goals as goal
 
-pub loop-i-preserved : goal.loop-i-preserved
-loop-i-preserved c =
-    let long : length c.args.tag ≡ 16 = search rules in
-    let within : length c.args.given.now ≤ length c.args.tag = omega (arith, long, c.requires) in
-    step_on c.args.given.now c.args.tag c.loop-i.difference c.loop-i.i c.loop-i-test.true within ∙ c.loop-i.invariant
-
-pub returns : goal.returns
-returns c = at_end c.args.given.now c.args.tag c.loop-i.difference c.loop-i.i c.loop-i-test.false ∙ c.loop-i.invariant
+pub loop-a-preserved : goal.loop-a-preserved
+loop-a-preserved c =
+    let went = c.in-Some.ensures.steps in
+    let enough = c.loop-a.invariant.enough in
+    record {
+      same = step_on c.loop-a.difference c.in-Some.a.now c.in-Some.b.now _ _ _ _ went.0 went.1 ∙ c.loop-a.invariant.same;
+      enough = omega (arith, ap length went.0, ap length went.1, enough);
+    }

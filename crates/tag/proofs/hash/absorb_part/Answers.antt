@@ -1,4 +1,4 @@
-use Rattle.std.proofs.Common.{◌≡◌, ℕ, ◌<◌, min, List, [], ◌∷◌, ◌++◌, length, sym, ap, ◌∙◌, subst, ap₂, append_assoc, append-nil, arith, rules}
+use Rattle.std.proofs.Common.{◌≡◌, ℕ, ◌<◌, min, List, [], ◌∷◌, ◌++◌, length, sym, ap, ◌∙◌, subst, ap₂, append_assoc, append-nil, arith}
 use Rattle.std.specs.Slice.Iter.{chunks_rest}
 use Rattle.std.proofs.lemmas.List.{take_all}
 use Rattle.field.specs.Bytes.{block_of}
@@ -6,13 +6,8 @@ use Rattle.field.specs.declared.kinds.Block.{Block}
 use Rattle.message.specs.Blocks.{filled, blocks}
 use Rattle.message.proofs.Cutting.{blocks_more, blocks_none}
 use Rattle.engine.specs.Rows.{Hashed}
-use Rattle.engine.proofs.HashedRows.{hashed_none, hashed_one, hashed_append}
+use Rattle.engine.proofs.HashedRows.{hashed_one, hashed_append}
 use Rattle.tag.proofs.hash.absorb_part.Goals as goal
-
-pub loop-piece-init : goal.loop-piece-init
-loop-piece-init g c =
-    let same = ap chunks_rest c.into_iter-piece-iterator.ensures.into_iter_gives ∙ c.chunks-piece-items.ensures.rest in
-    ([], hashed_none g.E.Engine c.args.engine.now, ap blocks same, search rules)
 
 pub loop-piece-preserved : goal.loop-piece-preserved
 loop-piece-preserved g c =

@@ -10,8 +10,8 @@ pub returns : goal.returns
 unfolding hash_of
 returns g c =
     let m = g.E.Engine in
-    let header : List ℕ = c.args.header.now in
-    let body : List ℕ = c.args.body.now in
+    let header : List ℕ = c.args.message.header.now in
+    let body : List ℕ = c.args.message.body.now in
     let lengths : Block = block_of_lengths header body in
     let start = c.args.engine.now in
     let zeroed = c.resume.new.self in

@@ -1,8 +1,8 @@
-use Rattle.std.proofs.Common.{◌≡◌, ℕ, length, get_or, sym, ap, ◌∙◌, arith, lit<, rules}
+use Rattle.std.proofs.Common.{◌≡◌, ℕ, length, get_or, sym, ap, ◌∙◌, arith, lit<, mod-eq_of_lt, rules}
 use Rattle.field.specs.Digits.{numeral, digits}
+use Rattle.field.specs.Kinds.{block}
+use Rattle.field.specs.Bytes.{bytes_of}
 use Rattle.field.proofs.Digits.{AreDigits, spelled, spells, digits_numeral}
-use Rattle.field.specs.Held.{entered}
-use Rattle.field.specs.Instances.{block_held}
 use Rattle.field.proofs.kinds.Block.from_bytes.Goals as goal
 
 pub returns : goal.returns
@@ -15,6 +15,10 @@ returns c =
     let made : c.from_be_bytes.result ≡ numeral 256 c.args.bytes =
     summed ∙ ap (numeral 256) (sym (spells c.args.bytes ∙ ap (λ (n : ℕ). spelled n at) long)) in
     record {
-      value = entered block_held _ (numeral 256 c.args.bytes) made;
-      back = ap (digits 256 16) made ∙ ap (λ (n : ℕ). digits 256 n (numeral 256 c.args.bytes)) (sym long) ∙ digits_numeral 256 (lit< tt) c.args.bytes small;
+      value = c.new.ensures ∙ ap block made;
+      back =
+          ap bytes_of c.new.ensures
+          ∙ ap (digits 256 16) (mod-eq_of_lt c.from_be_bytes.type_inv ∙ made)
+          ∙ ap (λ (n : ℕ). digits 256 n (numeral 256 c.args.bytes)) (sym long)
+          ∙ digits_numeral 256 (lit< tt) c.args.bytes small;
     }

@@ -1,65 +1,70 @@
-use Rattle.std.proofs.Common.{◌≡◌, ℕ, suc, ◌+◌, ◌-◌, ◌*◌, ◌≤◌, true, List, length, take, drop, sym, refl, ap, ◌∙◌, ap₂, add-one, arith}
+use Rattle.std.proofs.Common.{◌≡◌, ℕ, suc, ◌+◌, ◌*◌, ◌≤◌, true, List, length, take, drop, sym, refl, ap, ◌∙◌, ap₂, add-one, arith, ◌-◌}
 use Rattle.std.proofs.lemmas.List.{length-drop, take_rest, drop-drop}
-use Rattle.format.specs.Faults.{Previous, is_size_good, kind_in, data_in, fault_of}
-use Rattle.sealed.specs.Reading.{previous_of}
-use Rattle.sealed.proofs.Places.{sized, bytes_left, block_left, block_size, wrong_block, no_fault_form}
+use Rattle.std.proofs.lemmas.Result.{err_from_is_err_and}
+use Rattle.format.specs.Faults.{Previous, is_size_good, kind_in, data_in, previous, previous_at, block_at, fault_of}
+use Rattle.sealed.specs.Reading.{wrong_at}
+use Rattle.sealed.specs.Shapes.{previous_of, shown}
+use Rattle.sealed.proofs.Places.{sized, wrong_block}
 use Rattle.sealed.proofs.reader.Reader.next.Goals as goal
 
--- where bytes are left, the next 512 are a whole block
-module _ (file : List ℕ) (k : ℕ) (good : true ≡ is_size_good file) (some : length (take (length file - 512 * k) (drop (512 * k) file)) ≡ 0 → ⊥) where
+-- the block that was cut off the file, and what stands before it
+module _ (file block left : List ℕ) (k : ℕ) (p : Previous) (is_left : left ≡ take (length file - 512 * k) (drop (512 * k) file))
+    (cut : block ≡ take 512 left) (enough : 512 ≤ length left) (kind : p.kind ≡ (previous_at file k).kind) (used : p.used ≡ (previous_at file k).used) where
+  rest : left ≡ drop (512 * k) file
+  rest = is_left ∙ take_rest file (512 * k)
+
+  is_block : block ≡ block_at file k
+  is_block = cut ∙ ap (take 512) rest
+
   whole : 512 * suc k ≤ length file
-  whole = block_left file k (sized file (sym good)) (bytes_left file (512 * k) some)
+  whole = omega (arith, ap length rest, length-drop (512 * k) file, enough)
 
-  slice_size : length (take 512 (take (length file - 512 * k) (drop (512 * k) file))) ≡ 512
-  slice_size = ap (λ (xs : List ℕ). length (take 512 xs)) (take_rest file (512 * k)) ∙ block_size file k whole
+  -- what is wrong with it is what is wrong at its place
+  wrong : is_size_good file ≡ true → wrong_at file k ≡ fault_of k p block
+  wrong good =
+      let before : p ≡ previous_at file k = λ i. record { kind = kind i; used = used i } in
+      wrong_block file k good (omega (arith, whole)) ∙ sym (ap₂ (fault_of k) before is_block)
 
-pub slice_bounds-block_fault-end : goal.slice_bounds-block_fault-end
-slice_bounds-block_fault-end c = sym (slice_size c.args.self.now.file.now c.args.self.now.place c.if-not-size_good.ensures c.if-left-eq0.false)
+  next_previous : (q : Previous) → q ≡ previous block → q ≡ previous_at file (k + 1)
+  next_previous q said = said ∙ ap previous is_block ∙ sym (ap (previous_at file) (add-one k))
 
-pub block_fault-requires : goal.block_fault-requires
-block_fault-requires c = slice_size c.args.self.now.file.now c.args.self.now.place c.if-not-size_good.ensures c.if-left-eq0.false
+pub overflow_cast-place : goal.overflow_cast-place
+overflow_cast-place c =
+    let self = c.args.self.now in
+    let good = sized self.file.now (sym c.if-not-size_good.ensures) in
+    omega (arith, self.within, good.few)
 
-pub returns-in-Some : goal.returns-in-Some
-returns-in-Some c =
-    let file : List ℕ = c.args.self.now.file.now in
-    let k : ℕ = c.args.self.now.place in
-    let good : is_size_good file ≡ true = sym c.if-not-size_good.ensures in
-    let said = ap₂ (λ (p : Previous) (xs : List ℕ). fault_of k p (take 512 xs)) c.before_at-before.ensures (take_rest file (512 * k)) in
-    record {
-      file = refl;
-      read = (wrong_block file k good (bytes_left file (512 * k) c.if-left-eq0.false) ∙ sym (c.block_fault.ensures ∙ said) ∙ c.in-Some.is, refl);
-    }
+pub returns-in_err-shape-clause-read : goal.returns-in_err-shape-clause-read
+returns-in_err-shape-clause-read c =
+    let self = c.args.self.now in
+    let came = err_from_is_err_and c.from_residual.result c.from_residual.ensures.1 in
+    let cut = c.in-Some.ensures.cases in
+    rw (came.1, came.2)
+    (wrong self.file.now c.in-Some.block.now _ self.place (previous_of self.last) refl cut.same cut.enough self.kind self.used (sym c.if-not-size_good.ensures) ∙ c.in_err-shape.ensures, refl)
 
-pub parse-requires : goal.parse-requires
-parse-requires c =
-    let file : List ℕ = c.args.self.now.file.now in
-    let k : ℕ = c.args.self.now.place in
+pub invariant_of-self : goal.invariant_of-self
+invariant_of-self c =
+    let self = c.args.self.now in
+    let cut = c.in-Some.ensures.cases in
+    let said = next_previous self.file.now c.in-Some.block.now _ self.place (previous_of self.last) refl cut.same cut.enough self.kind self.used (shown c.in_ok-shape.shape) c.in_ok-shape.ensures.1 in
+    let long = whole self.file.now c.in-Some.block.now _ self.place (previous_of self.last) refl cut.same cut.enough self.kind self.used in
+    record { within = omega (arith, long); kind = ap (λ (p : Previous). p.kind) said; used = ap (λ (p : Previous). p.used) said }
+
+pub returns-clause-read : goal.returns-clause-read
+returns-clause-read c =
+    let self = c.args.self.now in
+    let file : List ℕ = self.file.now in
+    let k : ℕ = self.place in
+    let cut = c.in-Some.ensures.cases in
     let rest = take_rest file (512 * k) in
-    record {
-      long = omega (arith, ap length rest, length-drop (512 * k) file, whole file k c.if-not-size_good.ensures c.if-left-eq0.false);
-      good = no_fault_form k (previous_of c.before_at-before.result) (take 512 (take (length file - 512 * k) (drop (512 * k) file))) (sym c.block_fault.ensures ∙ c.in_default.is);
-    }
-
-pub returns : goal.returns
-returns c =
-    let file : List ℕ = c.args.self.now.file.now in
-    let k : ℕ = c.args.self.now.place in
-    let good : is_size_good file ≡ true = sym c.if-not-size_good.ensures in
-    let some = bytes_left file (512 * k) c.if-left-eq0.false in
-    let rest = take_rest file (512 * k) in
-    let said = ap₂ (λ (p : Previous) (xs : List ℕ). fault_of k p (take 512 xs)) c.before_at-before.ensures rest in
     let next : 512 * k + 512 ≡ 512 * suc k = omega arith in
-    let parsed = c.parse.ensures in
-    record {
-      file = refl;
-      read = (
-        wrong_block file k good some ∙ sym (c.block_fault.ensures ∙ said) ∙ c.in_default.is,
-        whole file k c.if-not-size_good.ensures c.if-left-eq0.false,
-        record {
-          kind = parsed.kind ∙ ap (λ (xs : List ℕ). kind_in (take 512 xs)) rest;
-          bytes = parsed.bytes ∙ ap (λ (xs : List ℕ). data_in (take 512 xs)) rest;
-          after = parsed.after ∙ ap (drop 512) rest ∙ drop-drop 512 (512 * k) file ∙ ap (λ (n : ℕ). drop n file) next;
-        },
-        add-one k,
-      );
-    }
+    let parsed = c.parse.ensures in (
+      wrong file c.in-Some.block.now _ k (previous_of self.last) refl cut.same cut.enough self.kind self.used (sym c.if-not-size_good.ensures) ∙ c.in_ok-shape.ensures.0,
+      whole file c.in-Some.block.now _ k (previous_of self.last) refl cut.same cut.enough self.kind self.used,
+      record {
+        kind = parsed.kind ∙ ap (λ (xs : List ℕ). kind_in (take 512 xs)) rest;
+        bytes = parsed.bytes ∙ ap (λ (xs : List ℕ). data_in (take 512 xs)) rest;
+        after = parsed.after ∙ ap (drop 512) rest ∙ drop-drop 512 (512 * k) file ∙ ap (λ (n : ℕ). drop n file) next;
+      },
+      add-one k,
+    )

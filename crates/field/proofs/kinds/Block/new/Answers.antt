@@ -1,7 +1,0 @@
-use Rattle.std.proofs.Common.{refl}
-use Rattle.field.specs.Held.{entered}
-use Rattle.field.specs.Instances.{block_held}
-use Rattle.field.proofs.kinds.Block.new.Goals as goal
-
-pub returns : goal.returns
-returns c = entered block_held _ c.args.bits refl

@@ -1,0 +1,16 @@
+use Rattle.std.proofs.Common.{◌≡◌, [], ◌∷◌, refl, ◌∙◌, ap₂}
+use Rattle.field.specs.Digits.{numeral}
+use Rattle.field.specs.Evaluation.{eval}
+use Rattle.field.specs.Kinds.{block_ring}
+use Rattle.field.specs.declared.kinds.Block.{Block}
+use Rattle.field.specs.Instances.{same_block}
+use Rattle.readings.specs.Table.{first, last}
+use Rattle.readings.proofs.Rows.{table}
+use Rattle.readings.proofs.block_value.Goals as goal
+
+pub returns : goal.returns
+unfolding numeral
+returns c =
+    let key : c.new.result ≡ first 0x40 = c.new.ensures ∙ same_block _ _ refl in
+    let item : c.new-2.result ≡ last 0x01 = c.new-2.ensures ∙ same_block _ _ refl in
+    c.evaluate.ensures ∙ ap₂ (λ (k p : Block). eval block_ring k (p ∷ [])) key item ∙ table.block_value_row

@@ -1,0 +1,73 @@
+// The data of a file's blocks, fed to a job.
+ghost use Rattle.std.specs.Prelude.{◌≡◌, ℕ, ◌+◌, ◌≤◌, List, [], ◌++◌, length};
+ghost use Rattle.format.specs.Faults.{blocks_of, data_of};
+ghost use Rattle.format.specs.Kinds.{number_of};
+ghost use Rattle.message.specs.Limits.{header_limit, body_limit};
+ghost use Rattle.sealed.specs.Checking.{data_of_kind};
+ghost use Rattle.sealed.specs.Feeding.{BodyFed, HeaderFed};
+
+use crate::prefix::read_prefix;
+use engine::Engine;
+use format::Kind;
+use job::{BodyJob, HeaderJob};
+
+// A job in the state of one part, of which it takes piece after piece.
+pub(crate) trait Takes {
+    ghost limit: { ℕ };
+
+    // From the first state to the second it was fed these bytes.
+    ghost fed: { Self → List ℕ → Self → Type 0 };
+
+    fn take(&mut self, piece: &[u8])
+        ensures { (first : Self) (taken : List ℕ) → length taken + length piece.now ≤ limit → fed first taken self.old → fed first (taken ++ piece.now) self.new };
+
+    ghost begins: { (first : Self) → fed first [] first };
+}
+
+// Nothing is refused, since all together is within the limit.
+impl<E: Engine> Takes for HeaderJob<E> {
+    ghost limit = { header_limit };
+
+    ghost fed = { HeaderFed E.Engine };
+
+    ghost begins = { λ first h given e took. took };
+
+    fn take(&mut self, piece: &[u8]) {
+        let _ = self.feed(piece);
+    }
+}
+
+impl<E: Engine> Takes for BodyJob<E> {
+    ghost limit = { body_limit };
+
+    ghost fed = { BodyFed E.Engine };
+
+    ghost begins = { λ first h given e header took. took };
+
+    fn take(&mut self, piece: &[u8]) {
+        let _ = self.feed(piece);
+    }
+}
+
+// The data of a block of this kind, and none of another.
+fn data_for<'a>(block: &'a [u8; 512], kind: Kind) -> &'a [u8]
+    ensures { result.now ≡ data_of_kind (number_of kind) block.now }
+{
+    let (prefix, rest) = read_prefix(block);
+    if prefix.kind != kind.number() {
+        return &rest[0..0];
+    }
+    let end = prefix.used.min(rest.len());
+    &rest[0..end]
+}
+
+// The data of all blocks of this kind.
+pub(crate) fn feed_part<J: Takes>(job: &mut J, file: &[u8], kind: Kind)
+    requires { length (data_of (number_of kind) (blocks_of file.now)) ≤ J.limit }
+    ensures { J.fed job.old (data_of (number_of kind) (blocks_of file.now)) job.new }
+{
+    let (blocks, _rest) = file.as_chunks::<512>();
+    for block in blocks {
+        job.take(data_for(block, kind));
+    }
+}

@@ -1,0 +1,23 @@
+// What comes back of an engine that is moved in.
+use field::Block;
+use format::Lengths;
+use refusal::Refusal;
+
+// The engine comes back in any case.
+#[derive(Drop)]
+pub struct Handed<E, T> {
+    pub engine: E,
+    pub answer: Result<T, Refusal>,
+}
+
+#[derive(Clone, Copy, PartialEq, Eq, Debug)]
+pub struct Sealed {
+    pub blocks: u32,
+    pub hash: Block,
+    pub tag: Block,
+}
+
+// What comes of checking a file, and of writing one.
+pub type Checked<E> = Handed<E, Lengths>;
+
+pub type Written<E> = Handed<E, Sealed>;
