@@ -1,14 +1,13 @@
 // Jobs beside the engines' own absorbs, over a body of 1,536 blocks.
 use crate::engines::{accepted, key};
-use anyhow::anyhow;
+use crate::timing::{Timed, time};
 use engine::{Division, Engine, Step};
 use field::{Block, Element};
 use job::{BodyJob, Closed, HeaderJob};
-use std::time::Instant;
 
-const BLOCKS: usize = 1536;
+const BLOCKS: u32 = 1536;
 
-const BYTES: usize = 16 * BLOCKS;
+const BYTES: usize = 16 * 1536;
 
 fn body() -> [u8; BYTES] {
     let mut bytes = [0u8; BYTES];
@@ -21,13 +20,11 @@ fn body() -> [u8; BYTES] {
 }
 
 // The body's blocks and its length block, absorbed without a job.
-fn plain<E: Engine>(engine: E, body: &[u8]) -> Closed<E> {
-    let mut engine = engine;
+fn plain<E: Engine>(mut engine: E, body: &[u8]) -> Closed<E> {
     engine.resume(Block::zero());
-    for piece in body.chunks_exact(16) {
-        let mut bytes = [0u8; 16];
-        bytes.copy_from_slice(piece);
-        engine.absorb(Block::from_bytes(bytes));
+    let (blocks, _rest) = body.as_chunks::<16>();
+    for bytes in blocks {
+        engine.absorb(Block::from_bytes(*bytes));
     }
     engine.absorb(Block::new((body.len() as u128).wrapping_mul(8)));
     let hash = engine.value();
@@ -47,6 +44,34 @@ fn fed<E: Engine>(engine: E, body: &[u8], size: usize) -> Closed<E> {
     job.close(Block::zero())
 }
 
+// What was closed last, and whether all that was closed before it had the same hash.
+#[derive(Drop)]
+struct Laps<E> {
+    closed: Closed<E>,
+    same: bool,
+}
+
+// Further laps by one way of closing, each with the engine of the lap before.
+fn measure<E: Engine + Drop, W: FnMut(E) -> Closed<E>>(
+    rt: &HostRuntime,
+    count: u32,
+    laps: Laps<E>,
+    mut way: W,
+) -> anyhow::Result<Timed<Laps<E>>>
+    requires { (state : W) (x : _) → W.pre state x }
+{
+    time(rt, count, laps, |laps| {
+        let Closed {
+            engine,
+            hash,
+            tag: _,
+        } = laps.closed;
+        let closed = way(engine);
+        let same = laps.same && closed.hash == hash;
+        Laps { closed, same }
+    })
+}
+
 // A row of the table: nanoseconds a block for the engine alone, for one large piece, and for a byte at a time.
 fn row<E: Engine + Drop>(
     rt: &HostRuntime,
@@ -55,39 +80,23 @@ fn row<E: Engine + Drop>(
     count: u32,
 ) -> anyhow::Result<()> {
     let body = body();
-    let each = u128::from(count.max(1))
-        .saturating_mul(BLOCKS as u128)
-        .max(1);
-    let mut closed = plain(engine, &body);
-    let hash = closed.hash;
-    let mut same = true;
-    let began = Instant::now(rt)?;
-    for _ in 0..count {
-        closed = plain(closed.engine, &body);
-        same = same && closed.hash == hash;
-    }
-    let alone = began.elapsed(rt)?.as_nanos() / each;
-    let began = Instant::now(rt)?;
-    for _ in 0..count {
-        closed = fed(closed.engine, &body, BYTES);
-        same = same && closed.hash == hash;
-    }
-    let large = began.elapsed(rt)?.as_nanos() / each;
-    let began = Instant::now(rt)?;
-    for _ in 0..count {
-        closed = fed(closed.engine, &body, 1);
-        same = same && closed.hash == hash;
-    }
-    let bytes = began.elapsed(rt)?.as_nanos() / each;
-    let differ = if same { "" } else { "  DIFFER" };
-    println!(rt; "{name:>8}  {alone:>5}  {large:>5}  {bytes:>5}{differ}")?;
+    let laps = Laps {
+        closed: plain(engine, &body),
+        same: true,
+    };
+    let alone = measure(rt, count, laps, |engine| plain(engine, &body))?;
+    let alone_ns = alone.each_of(BLOCKS);
+    let large = measure(rt, count, alone.left, |engine| fed(engine, &body, BYTES))?;
+    let large_ns = large.each_of(BLOCKS);
+    let bytes = measure(rt, count, large.left, |engine| fed(engine, &body, 1))?;
+    let bytes_ns = bytes.each_of(BLOCKS);
+    let differ = if bytes.left.same { "" } else { "  DIFFER" };
+    println!(rt; "{name:>8}  {alone_ns:>5}  {large_ns:>5}  {bytes_ns:>5}{differ}")?;
     Ok(())
 }
 
 pub(crate) fn jobs(rt: &HostRuntime, count: u32) -> anyhow::Result<()> {
-    let Some(polynomial) = accepted() else {
-        return Err(anyhow!("no polynomial"));
-    };
+    let polynomial = accepted()?;
     println!(rt; "ns a block  alone  large  bytes")?;
     row(rt, "step", Step::new(key()), count)?;
     row(rt, "division", Division::new(polynomial), count)

@@ -4,6 +4,7 @@
 mod engines;
 mod files;
 mod jobs;
+mod timing;
 
 use anyhow::anyhow;
 use engines::{engines, key};
@@ -12,7 +13,7 @@ use files::files;
 use jobs::jobs;
 use polynomial::{make_polynomial, try_polynomial};
 use std::env;
-use std::time::Instant;
+use timing::{time, time_tries};
 
 // The words `jobs` and `files` print tables too (docs/SPEED.md).
 const USAGE: &str = "usage: bench product|trial|maker|engines COUNT
@@ -20,22 +21,14 @@ prints nanoseconds a block product, a trial or a making, over COUNT of them,
 or a table of the engines' times a block, each row over COUNT hashes";
 
 // A chain of products, each from the one before, so that none can be left out.
-fn chain(start: Block, key: Block, count: u32) -> Block {
-    let mut value = start;
-    for _ in 0..count {
-        value = value.times(key);
-    }
-    value
-}
-
 fn product(rt: &HostRuntime, count: u32) -> anyhow::Result<()> {
     let start = Block::new(0x0388_dace_60b6_a392_f328_c2b9_71b2_fe78);
     let key = key();
-    let began = Instant::now(rt)?;
-    let end = chain(start, key, count);
-    let nanos = began.elapsed(rt)?.as_nanos();
-    let each = nanos / u128::from(count.max(1));
-    println!(rt; "proved {each} ns a product, ending at {:032x}", end.bits())?;
+    let timed = time(rt, count, start, |value| value.times(key))?;
+    println!(rt;
+        "proved {} ns a product, ending at {}",
+        timed.each, timed.left
+    )?;
     Ok(())
 }
 
@@ -52,29 +45,18 @@ fn makes() -> bool {
     make_polynomial(key(), &mut scratch).is_ok()
 }
 
-fn trial(rt: &HostRuntime, count: u32) -> anyhow::Result<()> {
-    let mut accepted = 0u32;
-    let began = Instant::now(rt)?;
-    for _ in 0..count {
-        if accepts() {
-            accepted = accepted.saturating_add(1);
-        }
-    }
-    let each = began.elapsed(rt)?.as_nanos() / u128::from(count.max(1));
-    println!(rt; "proved {each} ns a trial, {accepted} accepted")?;
-    Ok(())
-}
-
-fn maker(rt: &HostRuntime, count: u32) -> anyhow::Result<()> {
-    let mut made = 0u32;
-    let began = Instant::now(rt)?;
-    for _ in 0..count {
-        if makes() {
-            made = made.saturating_add(1);
-        }
-    }
-    let each = began.elapsed(rt)?.as_nanos() / u128::from(count.max(1));
-    println!(rt; "proved {each} ns a making, {made} made")?;
+// Tries something so many times, and says how long one of them took and how many did what they should.
+fn tries<F: FnMut() -> bool>(
+    rt: &HostRuntime,
+    count: u32,
+    what: &str,
+    done: &str,
+    succeeds: F,
+) -> anyhow::Result<()>
+    requires { (state : F) → F.IsAlwaysCallable state }
+{
+    let timed = time_tries(rt, count, succeeds)?;
+    println!(rt; "proved {} ns a {what}, {} {done}", timed.each, timed.left)?;
     Ok(())
 }
 
@@ -84,11 +66,12 @@ fn run(rt: &HostRuntime) -> anyhow::Result<()> {
         println!(rt; "{USAGE}")?;
         return Ok(());
     };
-    let count = count.as_str().parse::<u32>()?;
+    let count = count.parse::<u32>()?;
+    // A plain match: an enum or a table of functions between a word and its call would be no plainer.
     match what.as_str() {
         "product" => product(rt, count),
-        "trial" => trial(rt, count),
-        "maker" => maker(rt, count),
+        "trial" => tries(rt, count, "trial", "accepted", accepts),
+        "maker" => tries(rt, count, "making", "made", makes),
         "engines" => engines(rt, count),
         "jobs" => jobs(rt, count),
         "files" => files(rt, count),

@@ -1,34 +1,21 @@
 // The command `replay`: a job driven by a script, over a pair of step and division engines.
+use crate::flight::Key;
 use crate::polynomials::accepted;
 use crate::script::{Asked, Script, Step};
 use crate::stop::{Argument, Stop};
-use crate::words::block_word;
+use crate::words::exactly;
 use engine::{Division, Pair, Side};
-use field::Block;
 use job::{Call, Replayed, replay};
+use message::Part;
 use refusal::Refusal;
-use std::alloc::{AllocError, Global};
-use std::{fs, io};
+use std::alloc::AllocError;
+use std::io;
 
 type Engines = Pair<engine::Step, Division>;
 
-fn calls_of<'a>(heap: Global, steps: &'a [Step]) -> Result<Vec<Call<'a>>, AllocError> {
-    let mut calls = Vec::new(heap);
-    for step in steps {
-        let call = match &step.asked {
-            Asked::Feed(piece) => Call::Feed(piece.as_slice()),
-            Asked::Switch => Call::Switch,
-        };
-        if calls.push(call).is_err() {
-            return Err(AllocError);
-        }
-    }
-    Ok(calls)
-}
-
 fn print_step(
     rt: &HostRuntime,
-    part: &str,
+    part: Part,
     step: &Step,
     answer: &Result<(), Refusal>,
 ) -> io::Result<()> {
@@ -39,77 +26,53 @@ fn print_step(
     }
     match answer {
         Ok(()) => println!(rt; "accepted"),
-        Err(refusal) => println!(rt; "refused {}: {}", refusal.number(), refusal.text()),
+        Err(refusal) => println!(rt; "{refusal}"),
     }
 }
 
 // Each answer of a part, and the count of bytes that were taken.
 fn print_part(
     rt: &HostRuntime,
-    part: &str,
+    part: Part,
     steps: &[Step],
     answers: &[Result<(), Refusal>],
 ) -> io::Result<u64> {
     let mut taken = 0u64;
-    for (step, answer) in steps.iter().zip(answers.iter()) {
+    for (step, answer) in steps.iter().zip(answers) {
         print_step(rt, part, step, answer)?;
-        if let Asked::Feed(piece) = &step.asked {
-            if answer.is_ok() {
-                taken = taken.saturating_add(piece.len() as u64);
-            }
+        if answer.is_ok() {
+            taken = taken.saturating_add(step.bytes());
         }
     }
     Ok(taken)
 }
 
 fn print_replay(rt: &HostRuntime, script: &Script, done: &Replayed<Engines>) -> io::Result<()> {
-    let header = print_part(
-        rt,
-        "header",
-        script.header.as_slice(),
-        done.header.as_slice(),
-    )?;
-    let body = print_part(rt, "body", script.body.as_slice(), done.body.as_slice())?;
+    let header = print_part(rt, Part::Header, &script.header, &done.header)?;
+    let body = print_part(rt, Part::Body, &script.body, &done.body)?;
     let running = match done.closed.engine.running() {
         Side::First => "step",
         Side::Second => "division",
     };
     println!(rt; "closed: {header} bytes of header, {body} of body, the {running} engine runs")?;
-    println!(rt; "hash {:032x}", done.closed.hash.bits())?;
-    println!(rt; "tag {:032x}", done.closed.tag.bits())
+    println!(rt; "hash {}", done.closed.hash)?;
+    println!(rt; "tag {}", done.closed.tag)
 }
 
-fn run_script(rt: &HostRuntime, subkey: Block, pad: Block, script: &Script) -> Result<(), Stop> {
-    let engines = Pair::new(engine::Step::new(subkey), Division::new(accepted(subkey)?));
-    let header = calls_of(rt.alloc(), script.header.as_slice())?;
-    let body = calls_of(rt.alloc(), script.body.as_slice())?;
-    match replay(rt.alloc(), engines, header.as_slice(), body.as_slice(), pad) {
-        Ok(done) => {
-            print_replay(rt, script, &done)?;
-            Ok(())
-        }
-        Err(_) => Err(Stop::NoMemory),
-    }
+fn run_script(rt: &HostRuntime, key: Key, script: &Script) -> Result<(), Stop> {
+    let engines = Pair::new(key.step(), Division::new(accepted(key.subkey)?));
+    let header: Vec<Call> = script.header.iter().map(Step::call).collect(rt.alloc())?;
+    let body: Vec<Call> = script.body.iter().map(Step::call).collect(rt.alloc())?;
+    let done = replay(rt.alloc(), engines, &header, &body, key.pad).map_err(
+        |_engines| Stop::NoMemory(AllocError),
+    )?;
+    print_replay(rt, script, &done)?;
+    Ok(())
 }
 
 pub(crate) fn replay_script(rt: &HostRuntime, words: &[String]) -> Result<(), Stop> {
-    let [subkey, pad, name] = words else {
-        return Err(Stop::WrongCount {
-            wanted: 3,
-            given: words.len(),
-        });
-    };
-    let subkey = block_word(Argument::Subkey, subkey.as_str())?;
-    let pad = block_word(Argument::Pad, pad.as_str())?;
-    let text = match fs::read_to_string(rt, name.as_str()) {
-        Ok(text) => text,
-        Err(error) => {
-            return Err(Stop::NoFile {
-                argument: Argument::Script,
-                error,
-            });
-        }
-    };
-    let script = Script::read(rt, text.as_str())?;
-    run_script(rt, subkey, pad, &script)
+    let [subkey, pad, script] = exactly::<3>(words)?;
+    let key = Key::read(subkey, pad)?;
+    let text = Argument::Script.read_text(rt, script)?;
+    run_script(rt, key, &Script::read(rt, &text)?)
 }

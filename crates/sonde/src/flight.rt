@@ -1,14 +1,56 @@
 // A flight that is about to leave: its key, its parts, and what the list is to be gone down with.
 use crate::stop::{Argument, Stop};
-use crate::words::{block_word, file_word, number_word};
+use engine::Step;
 use field::Block;
+use message::Message;
+
+// A subkey and a pad, which are always given together.
+#[derive(Clone, Copy)]
+pub(crate) struct Key {
+    pub(crate) subkey: Block,
+    pub(crate) pad: Block,
+}
+
+impl Key {
+    pub(crate) fn read(subkey: &str, pad: &str) -> Result<Key, Stop> {
+        Ok(Key {
+            subkey: Argument::Subkey.parse_block(subkey)?,
+            pad: Argument::Pad.parse_block(pad)?,
+        })
+    }
+
+    pub(crate) fn step(self) -> Step {
+        Step::new(self.subkey)
+    }
+}
+
+// The two files of a message.
+#[derive(Drop)]
+pub(crate) struct Files {
+    pub(crate) header: Vec<u8>,
+    pub(crate) body: Vec<u8>,
+}
+
+impl Files {
+    pub(crate) fn read(rt: &HostRuntime, header: &str, body: &str) -> Result<Files, Stop> {
+        Ok(Files {
+            header: Argument::Header.read_bytes(rt, header)?,
+            body: Argument::Body.read_bytes(rt, body)?,
+        })
+    }
+
+    pub(crate) fn message(&self) -> Message<'_> {
+        Message {
+            header: &self.header,
+            body: &self.body,
+        }
+    }
+}
 
 #[derive(Drop)]
 pub(crate) struct Flight {
-    pub(crate) subkey: Block,
-    pub(crate) pad: Block,
-    pub(crate) header: Vec<u8>,
-    pub(crate) body: Vec<u8>,
+    pub(crate) key: Key,
+    pub(crate) files: Files,
     // A polynomial to be tried in the place of the maker's.
     pub(crate) proposal: Option<Block>,
     // Where the body is cut besides the usual places.
@@ -18,30 +60,22 @@ pub(crate) struct Flight {
 impl Flight {
     fn take_option(&mut self, name: &str, value: &str) -> Result<(), Stop> {
         match name {
-            "--polynomial" => {
-                self.proposal = Some(block_word(Argument::Proposal, value)?);
-                Ok(())
-            }
-            "--cut" => match self.cuts.push(number_word(Argument::Number, value)?) {
-                Ok(()) => Ok(()),
-                Err(_) => Err(Stop::NoMemory),
-            },
-            _ => Err(Stop::NoOption),
+            "--polynomial" => self.proposal = Some(Argument::Proposal.parse_block(value)?),
+            "--cut" => self.cuts.push(Argument::Number.parse_number(value)?)?,
+            _ => return Err(Stop::NoOption),
         }
+        Ok(())
     }
 
     // The four words SUBKEY, PAD, HEADER and BODY, and then options, each with its value.
     pub(crate) fn read(
         rt: &HostRuntime,
-        words: [&String; 4],
+        [subkey, pad, header, body]: [&String; 4],
         options: &[String],
     ) -> Result<Flight, Stop> {
-        let [subkey, pad, header, body] = words;
         let mut flight = Flight {
-            subkey: block_word(Argument::Subkey, subkey.as_str())?,
-            pad: block_word(Argument::Pad, pad.as_str())?,
-            header: file_word(rt, Argument::Header, header.as_str())?,
-            body: file_word(rt, Argument::Body, body.as_str())?,
+            key: Key::read(subkey, pad)?,
+            files: Files::read(rt, header, body)?,
             proposal: None,
             cuts: Vec::new(rt.alloc()),
         };
@@ -49,7 +83,7 @@ impl Flight {
             let [name, value] = option else {
                 return Err(Stop::NoOption);
             };
-            flight.take_option(name.as_str(), value.as_str())?;
+            flight.take_option(name, value)?;
         }
         Ok(flight)
     }

@@ -50,6 +50,7 @@ fn run(rt: &HostRuntime, words: &[String]) -> Result<(), Stop> {
         println!(rt; "{USAGE}")?;
         return Ok(());
     };
+    // A plain match: an enum or a table of functions between a word and its call would be no plainer.
     match command.as_str() {
         "preflight" => preflight(rt, rest),
         "tag" => tag_files(rt, rest),
@@ -66,29 +67,13 @@ fn run(rt: &HostRuntime, words: &[String]) -> Result<(), Stop> {
     }
 }
 
-// How many words stand before the first `then`.
-fn words_before_then(words: &[String]) -> usize {
-    for (at, word) in words.iter().enumerate() {
-        if word.as_str() == "then" {
-            return at;
-        }
-    }
-    words.len()
-}
-
 // Commands with `then` between them, one after another; the first that stops ends them all.
 fn run_each(rt: &HostRuntime, words: &[String]) -> Result<(), Stop> {
-    let mut left = words;
-    for _ in 0..words.len().max(1) {
-        let (now, after) = left.split_at(words_before_then(left).min(left.len()));
-        if now.is_empty() {
+    for command in words.split(|word| word.as_str() == "then") {
+        if command.is_empty() {
             return Err(Stop::NoCommand);
         }
-        run(rt, now)?;
-        let [_then, more @ ..] = after else {
-            return Ok(());
-        };
-        left = more;
+        run(rt, command)?;
     }
     Ok(())
 }
@@ -107,7 +92,7 @@ fn main(rt: HostRuntime) -> ExitCode {
     match start(&rt) {
         Ok(()) => ExitCode::SUCCESS,
         Err(stop) => {
-            let _ = stop.tell(&rt);
+            let _ = stop.print(&rt);
             ExitCode::FAILURE
         }
     }

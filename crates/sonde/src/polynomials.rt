@@ -1,8 +1,8 @@
 // The commands `maker` and `trial`: polynomials that a subkey annihilates.
 use crate::stop::{Argument, Stop};
-use crate::words::block_word;
+use crate::words::exactly;
 use field::{Block, Element};
-use polynomial::{Accepted, Binary, make_polynomial, try_polynomial};
+use polynomial::{Accepted, Binary, Trial, try_polynomial};
 
 // The maker's polynomial, as an accepted one.
 pub(crate) fn accepted(subkey: Block) -> Result<Accepted<Block>, Stop> {
@@ -10,32 +10,24 @@ pub(crate) fn accepted(subkey: Block) -> Result<Accepted<Block>, Stop> {
     Ok(Accepted::make(subkey, &mut scratch)?)
 }
 
-pub(crate) fn print_maker(rt: &HostRuntime, words: &[String]) -> Result<(), Stop> {
-    let [subkey] = words else {
-        return Err(Stop::WrongCount {
-            wanted: 1,
-            given: words.len(),
-        });
-    };
-    let subkey = block_word(Argument::Subkey, subkey.as_str())?;
+pub(crate) fn try_block(subkey: Block, proposal: Block) -> Result<Trial<Block>, Stop> {
     let mut scratch = [Block::zero(); 128];
-    let made = make_polynomial(subkey, &mut scratch)?;
-    println!(rt; "polynomial {:032x}", made.bits())?;
+    Ok(try_polynomial(subkey, proposal, &mut scratch)?)
+}
+
+pub(crate) fn print_maker(rt: &HostRuntime, words: &[String]) -> Result<(), Stop> {
+    let [subkey] = exactly::<1>(words)?;
+    let made = accepted(Argument::Subkey.parse_block(subkey)?)?.coefficients();
+    println!(rt; "polynomial {made}")?;
     println!(rt; "weight {}", made.weight())?;
     Ok(())
 }
 
 pub(crate) fn print_trial(rt: &HostRuntime, words: &[String]) -> Result<(), Stop> {
-    let [subkey, proposal] = words else {
-        return Err(Stop::WrongCount {
-            wanted: 2,
-            given: words.len(),
-        });
-    };
-    let subkey = block_word(Argument::Subkey, subkey.as_str())?;
-    let proposal = block_word(Argument::Proposal, proposal.as_str())?;
-    let mut scratch = [Block::zero(); 128];
-    let trial = try_polynomial(subkey, proposal, &mut scratch)?;
+    let [subkey, proposal] = exactly::<2>(words)?;
+    let subkey = Argument::Subkey.parse_block(subkey)?;
+    let proposal = Argument::Proposal.parse_block(proposal)?;
+    let trial = try_block(subkey, proposal)?;
     println!(rt; "accepted, weight {}", trial.weight)?;
     Ok(())
 }

@@ -1,15 +1,16 @@
 // The command `preflight`: the list that is gone down before a balloon is let go.
 use crate::files::sealed_file;
 use crate::flight::Flight;
-use crate::polynomials::accepted;
+use crate::polynomials::{accepted, try_block};
 use crate::stop::{Argument, Check, Stop};
-use crate::words::file_word;
-use engine::{Division, Engine, Pair};
-use field::{Block, Element};
+use engine::{Division, Engine, Pair, Step};
+use field::Block;
 use job::{BodyJob, Closed, HeaderJob};
 use message::{Digest, Message, Part, block_of, block_of_byte_counts};
-use polynomial::{Accepted, Binary, try_polynomial};
-use sealed::{ReadFault, check_file, read_parts};
+use polynomial::{Accepted, Binary};
+use refusal::Refusal;
+use sealed::{check_file, read_parts};
+use std::ops::Range;
 use tag::tag_message;
 
 // Every cut within so many bytes of the body's front is tried, and of its middle and its end within so many to both sides.
@@ -22,17 +23,14 @@ const PAST_DEGREE: usize = 129 * 16 + 7;
 
 // 1: the polynomial is the given one, else the maker's.
 fn try_flight(rt: &HostRuntime, flight: &Flight) -> Result<Accepted<Block>, Stop> {
+    let subkey = flight.key.subkey;
     let polynomial = match flight.proposal {
-        Some(proposal) => {
-            let mut scratch = [Block::zero(); 128];
-            try_polynomial(flight.subkey, proposal, &mut scratch)?.polynomial
-        }
-        None => accepted(flight.subkey)?,
+        Some(proposal) => try_block(subkey, proposal)?.polynomial,
+        None => accepted(subkey)?,
     };
     let coefficients = polynomial.coefficients();
     println!(rt;
-        "1 polynomial {:032x}: ok, weight {}",
-        coefficients.bits(),
+        "1 polynomial {coefficients}: ok, weight {}",
         coefficients.weight()
     )?;
     Ok(polynomial)
@@ -42,135 +40,90 @@ fn try_flight(rt: &HostRuntime, flight: &Flight) -> Result<Accepted<Block>, Stop
 fn cut_job<E: Engine + Drop>(
     engine: E,
     pad: Block,
-    header: &[u8],
-    body: &[u8],
+    message: Message,
     at: usize,
-) -> Result<Closed<E>, Stop> {
-    let (first, second) = body.split_at(at.min(body.len()));
+) -> Result<Closed<E>, Refusal> {
+    let (first, second) = message.body.split_at(at.min(message.body.len()));
     let mut job = HeaderJob::start(engine);
-    let fed = job.feed(header);
+    job.feed(message.header)?;
     let mut job = job.turn();
-    let fed_first = job.feed(first);
+    job.feed(first)?;
     let _ = job.switch();
-    let fed_second = job.feed(second);
-    let closed = job.close(pad);
-    match (fed, fed_first, fed_second) {
-        (Ok(()), Ok(()), Ok(())) => Ok(closed),
-        (Err(refusal), _, _) => Err(Stop::Refused(refusal)),
-        (_, Err(refusal), _) => Err(Stop::Refused(refusal)),
-        (_, _, Err(refusal)) => Err(Stop::Refused(refusal)),
-    }
+    job.feed(second)?;
+    Ok(job.close(pad))
 }
 
-// The hash of the blocks that the finder finds, and the length block.
-fn found_hash(subkey: Block, header: &[u8], body: &[u8]) -> Block {
-    let message = Message { header, body };
-    let mut engine = engine::Step::new(subkey);
-    let blocks = header
-        .len()
-        .div_ceil(16)
-        .saturating_add(body.len().div_ceil(16));
-    for n in 0..blocks {
-        if let Some(found) = message.find_block(n) {
-            engine.absorb(block_of(found.bytes));
-        }
+// The hash of the blocks that the finder finds, up to the first that it does not, and the length block.
+fn found_hash(subkey: Block, message: Message) -> Block {
+    let mut engine = Step::new(subkey);
+    for found in (0..usize::MAX).map_while(|n| message.find_block(n)) {
+        engine.absorb(block_of(found.bytes));
     }
+    let Message { header, body } = message;
     engine.absorb(block_of_byte_counts(header.len() as u64, body.len() as u64));
     engine.value()
 }
 
 // 2: the job against the one-shot call and against the blocks that the finder finds.
 fn hash_flight(rt: &HostRuntime, flight: &Flight) -> Result<Digest, Stop> {
-    let header = flight.header.as_slice();
-    let body = flight.body.as_slice();
-    let mut engine = engine::Step::new(flight.subkey);
-    let tagged = tag_message(&mut engine, flight.pad, Message { header, body })?;
-    let fresh = engine::Step::new(flight.subkey);
-    let closed = cut_job(fresh, flight.pad, header, body, body.len())?;
-    if closed.hash != tagged.hash {
-        return Err(Stop::Differs(Check::Job));
-    }
-    if found_hash(flight.subkey, header, body) != tagged.hash {
-        return Err(Stop::Differs(Check::Finder));
-    }
+    let key = flight.key;
+    let message = flight.files.message();
+    let tagged = tag_message(&mut key.step(), key.pad, message)?;
+    let closed = cut_job(key.step(), key.pad, message, message.body.len())?;
+    Check::Job.holds(closed.hash == tagged.hash)?;
+    Check::Finder.holds(found_hash(key.subkey, message) == tagged.hash)?;
     println!(rt;
-        "2 header first, then body: ok, job, one-shot and finder give {:032x}",
-        tagged.hash.bits()
+        "2 header first, then body: ok, job, one-shot and finder give {}",
+        tagged.hash
     )?;
     Ok(tagged)
 }
 
-// How many cuts from one place up to another give the tag.
-fn cuts_agree(flight: &Flight, tag: Block, from: usize, to: usize) -> Result<usize, Stop> {
-    let header = flight.header.as_slice();
-    let body = flight.body.as_slice();
-    let mut count = 0usize;
-    for at in from..to.min(body.len().saturating_add(1)) {
-        let closed = cut_job(
-            engine::Step::new(flight.subkey),
-            flight.pad,
-            header,
-            body,
-            at,
-        )?;
-        if closed.tag != tag {
-            return Err(Stop::Differs(Check::Cut));
-        }
-        count = count.saturating_add(1);
+// Tries each cut of a range, as far as the body goes, and answers how many there are.
+fn try_cuts(flight: &Flight, tag: Block, cuts: Range<usize>) -> Result<usize, Stop> {
+    let message = flight.files.message();
+    let end = cuts.end.min(message.body.len().saturating_add(1));
+    // The place is what is tried, no index.
+    for at in cuts.start..end {
+        let closed = cut_job(flight.key.step(), flight.key.pad, message, at)?;
+        Check::Cut.holds(closed.tag == tag)?;
     }
-    Ok(count)
+    Ok(end.saturating_sub(cuts.start))
 }
 
-// Whether the blocks found begin where the one before ended, and reach the ends of both parts.
-fn blocks_join(header: &[u8], body: &[u8]) -> bool {
-    let message = Message { header, body };
-    let blocks = header
-        .len()
-        .div_ceil(16)
-        .saturating_add(body.len().div_ceil(16));
-    let mut in_header = 0usize;
-    let mut in_body = 0usize;
-    let mut joined = true;
-    for n in 0..blocks {
-        match message.find_block(n) {
-            Some(found) => {
-                let end = found.offset.saturating_add(found.bytes.len());
-                match found.part {
-                    Part::Header => {
-                        joined = joined && found.offset == in_header;
-                        in_header = end;
-                    }
-                    Part::Body => {
-                        joined = joined && found.offset == in_body;
-                        in_body = end;
-                    }
-                }
+// Whether the blocks that are found in a part of so many bytes begin where the one before ended, and reach its end.
+fn blocks_join(message: Message, part: Part, length: usize) -> bool {
+    let mut end = 0usize;
+    for found in (0..usize::MAX).map_while(|n| message.find_block(n)) {
+        if found.part == part {
+            if found.offset != end {
+                return false;
             }
-            None => joined = false,
+            end = end.saturating_add(found.bytes.len());
         }
     }
-    joined && in_header == header.len() && in_body == body.len()
+    end == length
+}
+
+// The cuts at a place and near it.
+fn around(centre: usize) -> Range<usize> {
+    centre.saturating_sub(AROUND)..centre.saturating_add(AROUND + 1)
 }
 
 // 3: the body cut in two, at the given places, near its front, its middle and its end.
 fn cut_flight(rt: &HostRuntime, flight: &Flight, tag: Block) -> Result<(), Stop> {
-    let length = flight.body.len();
-    let middle = length / 2;
-    let mut cuts = cuts_agree(flight, tag, 0, FRONT.saturating_add(1))?;
-    for centre in [middle, length] {
-        let from = centre.saturating_sub(AROUND);
-        let to = centre.saturating_add(AROUND).saturating_add(1);
-        cuts = cuts.saturating_add(cuts_agree(flight, tag, from, to)?);
+    let message = flight.files.message();
+    let length = message.body.len();
+    let mut cuts = 0usize;
+    for range in [0..FRONT + 1, around(length / 2), around(length)] {
+        cuts = cuts.saturating_add(try_cuts(flight, tag, range)?);
     }
-    for at in flight.cuts.as_slice() {
-        if *at > length {
-            return Err(Stop::Differs(Check::CutPastEnd));
-        }
-        cuts = cuts.saturating_add(cuts_agree(flight, tag, *at, at.saturating_add(1))?);
+    for at in &flight.cuts {
+        Check::CutPastEnd.holds(*at <= length)?;
+        cuts = cuts.saturating_add(try_cuts(flight, tag, *at..at.saturating_add(1))?);
     }
-    if !blocks_join(flight.header.as_slice(), flight.body.as_slice()) {
-        return Err(Stop::Differs(Check::Finder));
-    }
+    Check::Finder.holds(blocks_join(message, Part::Header, message.header.len()))?;
+    Check::Finder.holds(blocks_join(message, Part::Body, length))?;
     println!(rt; "3 edges of the segments: ok, {cuts} cuts, each block in one segment")?;
     Ok(())
 }
@@ -181,22 +134,19 @@ fn switch_flight(
     flight: &Flight,
     polynomial: Accepted<Block>,
 ) -> Result<(), Stop> {
-    let mut body = Vec::new(rt.alloc());
-    body.extend_from_slice(flight.body.as_slice())?;
+    let key = flight.key;
+    let mut body = flight.files.body.clone()?;
     let short = body.len() < PAST_DEGREE;
-    if short {
-        let missing = PAST_DEGREE.saturating_sub(body.len());
-        body.extend_from_slice(vec![in rt.alloc(); 0u8; missing]?.as_slice())?;
-    }
-    let header = flight.header.as_slice();
-    let body = body.as_slice();
-    let mut alone = engine::Step::new(flight.subkey);
-    let tagged = tag_message(&mut alone, flight.pad, Message { header, body })?;
+    body.resize(body.len().max(PAST_DEGREE), 0)?;
+    let message = Message {
+        header: &flight.files.header,
+        body: &body,
+    };
+    let tagged = tag_message(&mut key.step(), key.pad, message)?;
     for at in [126 * 16, 127 * 16, 128 * 16, 128 * 16 + 7] {
-        let pair = Pair::new(engine::Step::new(flight.subkey), Division::new(polynomial));
-        if cut_job(pair, flight.pad, header, body, at)?.tag != tagged.tag {
-            return Err(Stop::Differs(Check::Switch));
-        }
+        let pair = Pair::new(key.step(), Division::new(polynomial));
+        let closed = cut_job(pair, key.pad, message, at)?;
+        Check::Switch.holds(closed.tag == tagged.tag)?;
     }
     let copy = if short {
         ", on a copy filled up to 2071 bytes"
@@ -209,24 +159,13 @@ fn switch_flight(
 
 // 5: the file written, read again, checked, and its records compared with the flight.
 fn seal_flight(rt: &HostRuntime, flight: &Flight, out: &str) -> Result<(), Stop> {
+    let key = flight.key;
     let blocks = sealed_file(rt, flight, out)?.blocks;
-    let file = file_word(rt, Argument::Out, out)?;
-    let checked = check_file(
-        engine::Step::new(flight.subkey),
-        flight.pad,
-        file.as_slice(),
-    );
-    checked.answer?;
-    let parts = match read_parts(rt.alloc(), file.as_slice()) {
-        Ok(parts) => parts,
-        Err(ReadFault::Refused(refusal)) => return Err(Stop::Refused(refusal)),
-        Err(ReadFault::Memory) => return Err(Stop::NoMemory),
-    };
-    if parts.header.as_slice() != flight.header.as_slice()
-        || parts.body.as_slice() != flight.body.as_slice()
-    {
-        return Err(Stop::Differs(Check::ReadBack));
-    }
+    let file = Argument::Out.read_bytes(rt, out)?;
+    check_file(key.step(), key.pad, &file).answer?;
+    let parts = read_parts(rt.alloc(), &file)?;
+    Check::ReadBack.holds(parts.header == flight.files.header)?;
+    Check::ReadBack.holds(parts.body == flight.files.body)?;
     println!(rt; "5 seal read back: ok, {blocks} blocks in {out}")?;
     Ok(())
 }
@@ -247,7 +186,7 @@ pub(crate) fn preflight(rt: &HostRuntime, words: &[String]) -> Result<(), Stop> 
         });
     };
     let flight = Flight::read(rt, [subkey, pad, header, body], options)?;
-    match go_down(rt, &flight, out.as_str()) {
+    match go_down(rt, &flight, out) {
         Ok(()) => {
             println!(rt; "cleared for launch")?;
             Ok(())

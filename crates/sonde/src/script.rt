@@ -1,7 +1,37 @@
 // Scripts of a job: a call to a line.
-use crate::stop::{LineFault, Stop};
+use crate::stop::{BadWord, Stop};
 use hexadecimal::parse_bytes;
-use std::fs;
+use job::Call;
+use std::alloc::AllocError;
+use std::{fs, io};
+use thiserror::Error;
+
+// What is wrong with a line of a script.
+#[derive(Debug, Drop, Error)]
+pub(crate) enum LineFault {
+    #[error("no such call")]
+    NoSuchCall,
+    #[error("this call takes no words")]
+    WordTooMany,
+    #[error("piece: {0}")]
+    BadHex(#[from] BadWord),
+    #[error("file: {0}")]
+    NoFile(#[from] io::Error),
+    #[error("header after the turn")]
+    HeaderAfterTurn,
+    #[error("body before the turn")]
+    BodyBeforeTurn,
+    #[error("a second turn")]
+    SecondTurn,
+    #[error("close before the turn")]
+    CloseBeforeTurn,
+    #[error("a call after the close")]
+    AfterClose,
+    #[error("the script ends before the close")]
+    NoClose,
+    #[error("no memory")]
+    NoMemory(#[from(alloc)] AllocError),
+}
 
 #[derive(Drop)]
 pub(crate) enum Asked {
@@ -16,8 +46,73 @@ pub(crate) struct Step {
     pub(crate) asked: Asked,
 }
 
+impl Step {
+    fn new(line: usize, asked: Asked) -> Step {
+        Step { line, asked }
+    }
+
+    pub(crate) fn call(&self) -> Call<'_> {
+        match &self.asked {
+            Asked::Feed(piece) => Call::Feed(piece),
+            Asked::Switch => Call::Switch,
+        }
+    }
+
+    // How many bytes it feeds.
+    pub(crate) fn bytes(&self) -> u64 {
+        match &self.asked {
+            Asked::Feed(piece) => piece.len() as u64,
+            Asked::Switch => 0,
+        }
+    }
+}
+
+// A line of a script.
+#[derive(Drop)]
+enum Line {
+    Header(Vec<u8>),
+    Switch,
+    Turn,
+    Body(Vec<u8>),
+    Close,
+}
+
+// The bytes of the words that follow a feed's name, joined: hexadecimal digits, or `@` and the name of a file.
+fn piece_words(rt: &HostRuntime, words: &str) -> Result<Vec<u8>, LineFault> {
+    let mut piece = Vec::new(rt.alloc());
+    for word in words.split_whitespace() {
+        let bytes = match word.strip_prefix('@') {
+            Some(name) => fs::read(rt, name)?,
+            None => parse_bytes(rt.alloc(), word).map_err(BadWord::Bytes)?,
+        };
+        piece.extend_from_slice(&bytes)?;
+    }
+    Ok(piece)
+}
+
+impl Line {
+    // Empty lines and those that begin with `#` are none.
+    fn parse(rt: &HostRuntime, text: &str) -> Result<Option<Line>, LineFault> {
+        let text = text.trim_ascii();
+        if text.is_empty() || text.starts_with('#') {
+            return Ok(None);
+        }
+        let (name, words) = text.split_once(' ').unwrap_or((text, ""));
+        let line = match name {
+            "header" => Line::Header(piece_words(rt, words)?),
+            "body" => Line::Body(piece_words(rt, words)?),
+            "switch" | "turn" | "close" if !words.is_empty() => return Err(LineFault::WordTooMany),
+            "switch" => Line::Switch,
+            "turn" => Line::Turn,
+            "close" => Line::Close,
+            _ => return Err(LineFault::NoSuchCall),
+        };
+        Ok(Some(line))
+    }
+}
+
 // How far the lines have come.
-#[derive(Clone, Copy)]
+#[derive(Clone, Copy, PartialEq, Eq)]
 enum Stage {
     Header,
     Body,
@@ -31,104 +126,33 @@ pub(crate) struct Script {
     stage: Stage,
 }
 
-// The bytes of the words that follow a feed's name, joined: hexadecimal digits, or `@` and the name of a file.
-fn piece_words(rt: &HostRuntime, words: &str) -> Result<Vec<u8>, LineFault> {
-    let mut piece = Vec::new(rt.alloc());
-    for word in words.split_whitespace() {
-        let bytes = match word.strip_prefix('@') {
-            Some(name) => match fs::read(rt, name) {
-                Ok(bytes) => bytes,
-                Err(error) => return Err(LineFault::NoFile(error)),
-            },
-            None => match parse_bytes(rt.alloc(), word) {
-                Ok(bytes) => bytes,
-                Err(fault) => return Err(LineFault::BadHex(fault)),
-            },
-        };
-        if piece.extend_from_slice(bytes.as_slice()).is_err() {
-            return Err(LineFault::NoMemory);
-        }
-    }
-    Ok(piece)
-}
-
-fn keep(steps: &mut Vec<Step>, line: usize, asked: Asked) -> Result<(), LineFault> {
-    match steps.push(Step { line, asked }) {
-        Ok(()) => Ok(()),
-        Err(_) => Err(LineFault::NoMemory),
-    }
-}
-
-// A line in two: its first word, and the words after it.
-fn parted(text: &str) -> (&str, &str) {
-    match text.split_once(' ') {
-        Some((name, words)) => (name, words),
-        None => (text, ""),
-    }
-}
-
 impl Script {
-    fn switch(&mut self, line: usize) -> Result<(), LineFault> {
-        match self.stage {
-            Stage::Header => keep(&mut self.header, line, Asked::Switch),
-            Stage::Body => keep(&mut self.body, line, Asked::Switch),
-            Stage::Closed => Err(LineFault::AfterClose),
+    // What the line asks, where it may stand there.
+    fn take(&mut self, number: usize, line: Line) -> Result<(), LineFault> {
+        match (self.stage, line) {
+            (Stage::Header, Line::Header(piece)) => self
+                .header
+                .push(Step::new(number, Asked::Feed(piece)))?,
+            (Stage::Header, Line::Switch) => self.header.push(Step::new(number, Asked::Switch))?,
+            (Stage::Header, Line::Turn) => self.stage = Stage::Body,
+            (Stage::Header, Line::Body(_)) => return Err(LineFault::BodyBeforeTurn),
+            (Stage::Header, Line::Close) => return Err(LineFault::CloseBeforeTurn),
+            (Stage::Body, Line::Header(_)) => return Err(LineFault::HeaderAfterTurn),
+            (Stage::Body, Line::Switch) => self.body.push(Step::new(number, Asked::Switch))?,
+            (Stage::Body, Line::Turn) => return Err(LineFault::SecondTurn),
+            (Stage::Body, Line::Body(piece)) => self
+                .body
+                .push(Step::new(number, Asked::Feed(piece)))?,
+            (Stage::Body, Line::Close) => self.stage = Stage::Closed,
+            (Stage::Closed, _) => return Err(LineFault::AfterClose),
         }
+        Ok(())
     }
 
-    fn feed_header(&mut self, line: usize, piece: Vec<u8>) -> Result<(), LineFault> {
-        match self.stage {
-            Stage::Header => keep(&mut self.header, line, Asked::Feed(piece)),
-            Stage::Body => Err(LineFault::HeaderAfterTurn),
-            Stage::Closed => Err(LineFault::AfterClose),
-        }
-    }
-
-    fn feed_body(&mut self, line: usize, piece: Vec<u8>) -> Result<(), LineFault> {
-        match self.stage {
-            Stage::Header => Err(LineFault::BodyBeforeTurn),
-            Stage::Body => keep(&mut self.body, line, Asked::Feed(piece)),
-            Stage::Closed => Err(LineFault::AfterClose),
-        }
-    }
-
-    fn turn(&mut self) -> Result<(), LineFault> {
-        match self.stage {
-            Stage::Header => {
-                self.stage = Stage::Body;
-                Ok(())
-            }
-            Stage::Body => Err(LineFault::SecondTurn),
-            Stage::Closed => Err(LineFault::AfterClose),
-        }
-    }
-
-    fn close(&mut self) -> Result<(), LineFault> {
-        match self.stage {
-            Stage::Header => Err(LineFault::CloseBeforeTurn),
-            Stage::Body => {
-                self.stage = Stage::Closed;
-                Ok(())
-            }
-            Stage::Closed => Err(LineFault::AfterClose),
-        }
-    }
-
-    // Empty lines and those that begin with `#` ask nothing.
-    fn take_line(&mut self, rt: &HostRuntime, line: usize, text: &str) -> Result<(), LineFault> {
-        let text = text.trim_ascii();
-        if text.is_empty() || text.starts_with('#') {
-            return Ok(());
-        }
-        let (name, words) = parted(text);
-        match name {
-            "header" => self.feed_header(line, piece_words(rt, words)?),
-            "body" => self.feed_body(line, piece_words(rt, words)?),
-            "switch" | "turn" | "close" if !words.is_empty() => Err(LineFault::WordTooMany),
-            "switch" => self.switch(line),
-            "turn" => self.turn(),
-            "close" => self.close(),
-            _ => Err(LineFault::NoSuchCall),
+    fn take_text(&mut self, rt: &HostRuntime, number: usize, text: &str) -> Result<(), LineFault> {
+        match Line::parse(rt, text)? {
+            Some(line) => self.take(number, line),
+            None => Ok(()),
         }
     }
 
@@ -139,19 +163,19 @@ impl Script {
             body: Vec::new(rt.alloc()),
             stage: Stage::Header,
         };
-        let mut line = 0usize;
-        for text in text.lines() {
-            line = line.saturating_add(1);
-            if let Err(fault) = script.take_line(rt, line, text) {
-                return Err(Stop::BadLine { line, fault });
-            }
+        for (at, text) in text.lines().enumerate() {
+            // Lines are counted from 1.
+            let line = at.saturating_add(1);
+            script
+                .take_text(rt, line, text)
+                .map_err(|fault| Stop::BadLine { line, fault })?;
         }
-        match script.stage {
-            Stage::Closed => Ok(script),
-            _ => Err(Stop::BadLine {
-                line,
+        if script.stage != Stage::Closed {
+            return Err(Stop::BadLine {
+                line: text.lines().count(),
                 fault: LineFault::NoClose,
-            }),
+            });
         }
+        Ok(script)
     }
 }

@@ -1,41 +1,72 @@
 // Words of the command line.
-use crate::stop::{Argument, Stop};
+use crate::stop::{Argument, BadWord, Stop};
 use field::Block;
 use hexadecimal::{parse_block, parse_bytes};
-use std::fs;
+use std::{fmt, fs, io};
 
-// A word of 32 digits.
-pub(crate) fn block_word(argument: Argument, word: &str) -> Result<Block, Stop> {
-    match parse_block(word) {
-        Ok(block) => Ok(block),
-        Err(fault) => Err(Stop::BadHex { argument, fault }),
+// The words of a command that takes so many.
+pub(crate) fn exactly<const N: usize>(words: &[String]) -> Result<&[String; N], Stop> {
+    words.as_array().ok_or_else(|| Stop::WrongCount {
+        wanted: N,
+        given: words.len(),
+    })
+}
+
+impl Argument {
+    // A word of 32 digits.
+    pub(crate) fn parse_block(self, word: &str) -> Result<Block, Stop> {
+        parse_block(word).map_err(|fault| Stop::BadHex {
+            argument: self,
+            word: BadWord::Block(fault),
+        })
+    }
+
+    // A word of any even count of digits.
+    pub(crate) fn parse_bytes(self, rt: &HostRuntime, word: &str) -> Result<Vec<u8>, Stop> {
+        parse_bytes(rt.alloc(), word).map_err(|fault| Stop::BadHex {
+            argument: self,
+            word: BadWord::Bytes(fault),
+        })
+    }
+
+    // A number in decimal digits.
+    pub(crate) fn parse_number(self, word: &str) -> Result<usize, Stop> {
+        word.parse::<usize>()
+            .map_err(|_| Stop::BadNumber { argument: self })
+    }
+
+    fn no_file(self, error: io::Error) -> Stop {
+        Stop::NoFile {
+            argument: self,
+            error,
+        }
+    }
+
+    // A file's bytes.
+    pub(crate) fn read_bytes(self, rt: &HostRuntime, path: &str) -> Result<Vec<u8>, Stop> {
+        fs::read(rt, path).map_err(|error| self.no_file(error))
+    }
+
+    // A file's text.
+    pub(crate) fn read_text(self, rt: &HostRuntime, path: &str) -> Result<String, Stop> {
+        fs::read_to_string(rt, path).map_err(|error| self.no_file(error))
+    }
+
+    // Writes a file.
+    pub(crate) fn write(self, rt: &HostRuntime, path: &str, bytes: &[u8]) -> Result<(), Stop> {
+        fs::write(rt, path, bytes).map_err(|error| self.no_file(error))
     }
 }
 
-// A word of any even count of digits.
-pub(crate) fn bytes_word(
-    rt: &HostRuntime,
-    argument: Argument,
-    word: &str,
-) -> Result<Vec<u8>, Stop> {
-    match parse_bytes(rt.alloc(), word) {
-        Ok(bytes) => Ok(bytes),
-        Err(fault) => Err(Stop::BadHex { argument, fault }),
-    }
-}
+// Bytes as hexadecimal digits.
+#[derive(Clone, Copy)]
+pub(crate) struct Hex<'a>(pub(crate) &'a [u8]);
 
-// A number in decimal digits.
-pub(crate) fn number_word(argument: Argument, word: &str) -> Result<usize, Stop> {
-    match word.parse::<usize>() {
-        Ok(number) => Ok(number),
-        Err(_) => Err(Stop::BadNumber { argument }),
-    }
-}
-
-// A file's bytes.
-pub(crate) fn file_word(rt: &HostRuntime, argument: Argument, path: &str) -> Result<Vec<u8>, Stop> {
-    match fs::read(rt, path) {
-        Ok(bytes) => Ok(bytes),
-        Err(error) => Err(Stop::NoFile { argument, error }),
+impl fmt::Display for Hex<'_> {
+    fn fmt<W: fmt::Write>(&self, f: &mut fmt::Formatter<W>) -> fmt::Result {
+        for byte in self.0 {
+            write!(f, "{byte:02x}")?;
+        }
+        Ok(())
     }
 }

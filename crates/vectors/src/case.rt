@@ -1,46 +1,20 @@
 // One published case, a line of seven words: number, subkey, pad, header, body, hash, tag.
 use crate::engines::print_engines;
+use crate::fault::Fault;
 use crate::jobs::print_jobs;
 use crate::trials::print_made;
-use hexadecimal::{HexFault, parse_block, parse_bytes};
+use field::Block;
+use hexadecimal::{parse_block, parse_bytes};
 use message::Message;
-use refusal::Refusal;
-use std::alloc::{AllocError, Global};
-use std::io;
+use std::alloc::Global;
 
-#[derive(Debug, Drop)]
-pub(crate) enum Fault {
-    WrongCount,
-    BadHex(HexFault),
-    Refused(Refusal),
-    NoMemory,
-    Failed(io::Error),
-    // Some hash or tag is not the published one.
-    Differs,
-}
-
-impl From<io::Error> for Fault {
-    fn from(error: io::Error) -> Fault {
-        Fault::Failed(error)
-    }
-}
-
-impl From<AllocError> for Fault {
-    fn from(_error: AllocError) -> Fault {
-        Fault::NoMemory
-    }
-}
-
-impl From<HexFault> for Fault {
-    fn from(fault: HexFault) -> Fault {
-        Fault::BadHex(fault)
-    }
-}
-
-impl From<Refusal> for Fault {
-    fn from(refusal: Refusal) -> Fault {
-        Fault::Refused(refusal)
-    }
+// What a case hashes, and by which key.
+#[derive(Drop)]
+pub(crate) struct Case {
+    pub(crate) subkey: Block,
+    pub(crate) header: Vec<u8>,
+    pub(crate) body: Vec<u8>,
+    pub(crate) pad: Block,
 }
 
 // A header or a body, where - stands for an empty one.
@@ -51,6 +25,24 @@ fn read_part(heap: Global, word: &str) -> Result<Vec<u8>, Fault> {
     Ok(parse_bytes(heap, word)?)
 }
 
+impl Case {
+    fn parse(heap: Global, [subkey, pad, header, body]: [&str; 4]) -> Result<Case, Fault> {
+        Ok(Case {
+            subkey: parse_block(subkey)?,
+            header: read_part(heap, header)?,
+            body: read_part(heap, body)?,
+            pad: parse_block(pad)?,
+        })
+    }
+
+    pub(crate) fn message(&self) -> Message<'_> {
+        Message {
+            header: &self.header,
+            body: &self.body,
+        }
+    }
+}
+
 // Prints what a case gives and a polynomial for its subkey, and answers whether hash and tag are as published.
 // By jobs too, where more is asked for.
 pub(crate) fn compare(rt: &HostRuntime, line: &str, more: bool) -> Result<bool, Fault> {
@@ -58,27 +50,18 @@ pub(crate) fn compare(rt: &HostRuntime, line: &str, more: bool) -> Result<bool, 
     let [number, subkey, pad, header, body, hash, tag] = words.as_slice() else {
         return Err(Fault::WrongCount);
     };
-    let subkey = parse_block(subkey)?;
-    let header = read_part(rt.alloc(), header)?;
-    let body = read_part(rt.alloc(), body)?;
-    let message = Message {
-        header: header.as_slice(),
-        body: body.as_slice(),
-    };
-    let digest = message.hash_and_tag(subkey, parse_block(pad)?)?;
+    let case = Case::parse(rt.alloc(), [subkey, pad, header, body])?;
+    let digest = case.message().hash_and_tag(case.subkey, case.pad)?;
     let same = digest.hash == parse_block(hash)? && digest.tag == parse_block(tag)?;
     let verdict = if same { "as published" } else { "DIFFERS" };
     println!(rt;
-        "case {number}: hash {:032x} tag {:032x} {verdict}",
-        digest.hash.bits(),
-        digest.tag.bits()
+        "case {number}: hash {} tag {} {verdict}",
+        digest.hash, digest.tag
     )?;
-    print_made(rt, subkey)?;
-    print_engines(rt, subkey, header.as_slice(), body.as_slice(), digest.hash)?;
+    print_made(rt, case.subkey)?;
+    print_engines(rt, &case, digest.hash)?;
     if more {
-        let pad = parse_block(pad)?;
-        let tag = parse_block(tag)?;
-        print_jobs(rt, subkey, pad, header.as_slice(), body.as_slice(), tag)?;
+        print_jobs(rt, &case, parse_block(tag)?)?;
     }
     Ok(same)
 }

@@ -1,10 +1,9 @@
 // Sealed files at the edges of their sizes.
-use crate::case::Fault;
+use crate::fault::Fault;
 use engine::Step;
 use field::{Block, Element};
 use format::Lengths;
 use message::Message;
-use refusal::Refusal;
 use sealed::{check_file, write_file};
 use std::alloc::Global;
 
@@ -13,47 +12,35 @@ const LARGEST: usize = 33_554_432;
 // The largest body of a file with no header: 65,535 full blocks.
 const LARGEST_BODY: usize = 65_535 * 502;
 
-// The blocks of the file that seals so many zeros, once it was checked, or the refusal.
-fn sealed_blocks(heap: Global, header: usize, body: usize) -> Result<Result<u32, Refusal>, Fault> {
+// The blocks of the file that seals so many zeros, once it was checked.
+fn sealed_blocks(heap: Global, header: usize, body: usize) -> Result<u32, Fault> {
     let header = vec![in heap; 0u8; header]?;
     let body = vec![in heap; 0u8; body]?;
     let mut file = vec![in heap; 0u8; LARGEST]?;
-    let written = write_file(
-        Step::new(Block::one()),
-        Block::zero(),
-        Message {
-            header: header.as_slice(),
-            body: body.as_slice(),
-        },
-        file.as_mut_slice(),
-    );
-    let sealed = match written.answer {
-        Ok(sealed) => sealed,
-        Err(refusal) => return Ok(Err(refusal)),
+    let step = Step::new(Block::one());
+    let message = Message {
+        header: &header,
+        body: &body,
     };
+    let sealed = write_file(step, Block::zero(), message, &mut file).answer?;
     let size = (sealed.blocks as usize).saturating_mul(512).min(LARGEST);
-    let (front, _rest) = file.as_slice().split_at(size);
     let wanted = Lengths {
         header: header.len() as u64,
         body: body.len() as u64,
     };
-    match check_file(Step::new(Block::one()), Block::zero(), front).answer {
-        Ok(lengths) => {
-            if lengths.header == wanted.header && lengths.body == wanted.body {
-                Ok(Ok(sealed.blocks))
-            } else {
-                Err(Fault::Differs)
-            }
-        }
-        Err(refusal) => Ok(Err(refusal)),
+    let step = Step::new(Block::one());
+    let lengths = check_file(step, Block::zero(), &file[..size]).answer?;
+    if lengths != wanted {
+        return Err(Fault::Differs);
     }
+    Ok(sealed.blocks)
 }
 
 fn print_file(rt: &HostRuntime, header: usize, body: usize) -> Result<(), Fault> {
     print!(rt; "file of header {header} and body {body}: ")?;
-    match sealed_blocks(rt.alloc(), header, body)? {
-        Ok(blocks) => println!(rt; "{blocks} blocks, written and accepted")?,
-        Err(refusal) => println!(rt; "refused {}", refusal.number())?,
+    match sealed_blocks(rt.alloc(), header, body) {
+        Err(Fault::Refused(refusal)) => println!(rt; "refused {}", refusal.number())?,
+        answer => println!(rt; "{} blocks, written and accepted", answer?)?,
     }
     Ok(())
 }

@@ -3,50 +3,53 @@
 
 mod case;
 mod engines;
+mod fault;
 mod files;
 mod jobs;
 mod trials;
 
-use case::{Fault, compare};
+use case::compare;
 use engines::print_long;
+use fault::Fault;
 use field::{Block, Element};
 use files::print_files;
 use readings::{Readings, take_readings};
 use std::env;
 use trials::print_trials;
 
-// Every line of the input that is no comment is a case; answers how many there are and how many agree.
-fn compare_all(rt: &HostRuntime, more: bool) -> Result<(u32, u32), Fault> {
-    let mut cases = 0u32;
-    let mut agreeing = 0u32;
+// How many cases there are, and how many of them agree.
+#[derive(Clone, Copy, Default)]
+struct Score {
+    cases: u64,
+    agreeing: u64,
+}
+
+impl Score {
+    fn add(&mut self, agrees: bool) {
+        self.cases = self.cases.saturating_add(1);
+        self.agreeing = self.agreeing.saturating_add(u64::from(agrees));
+    }
+}
+
+// Every line of the input that is no comment is a case.
+fn compare_all(rt: &HostRuntime, more: bool) -> Result<Score, Fault> {
+    let mut score = Score::default();
     for line in rt.lines(rt.alloc()) {
         let line = line?;
-        if line.as_str().starts_with('#') {
-            continue;
-        }
-        cases = cases.saturating_add(1);
-        if compare(rt, line.as_str(), more)? {
-            agreeing = agreeing.saturating_add(1);
+        if !line.starts_with('#') {
+            score.add(compare(rt, &line, more)?);
         }
     }
-    Ok((cases, agreeing))
+    Ok(score)
 }
 
 fn print_readings(rt: &HostRuntime, r: &Readings) -> Result<(), Fault> {
-    println!(rt;
-        "nibbles {:04b} {:04b}",
-        r.nibble_product.bits(),
-        r.nibble_value.bits()
-    )?;
-    println!(rt; "words {} {}", r.word_one.value(), r.word_two.value())?;
-    println!(rt; "block {:032x}", r.block_value.bits())?;
-    println!(rt;
-        "empty {:032x} {:032x}",
-        r.empty_hash.bits(),
-        r.empty_tag.bits()
-    )?;
-    println!(rt; "body only {:032x}", r.body_only.bits())?;
-    println!(rt; "header only {:032x}", r.header_only.bits())?;
+    println!(rt; "nibbles {} {}", r.nibble_product, r.nibble_value)?;
+    println!(rt; "words {} {}", r.word_one, r.word_two)?;
+    println!(rt; "block {}", r.block_value)?;
+    println!(rt; "empty {} {}", r.empty_hash, r.empty_tag)?;
+    println!(rt; "body only {}", r.body_only)?;
+    println!(rt; "header only {}", r.header_only)?;
     Ok(())
 }
 
@@ -61,21 +64,18 @@ fn more_asked(rt: &HostRuntime) -> Result<bool, Fault> {
 
 fn run(rt: &HostRuntime) -> Result<(), Fault> {
     let more = more_asked(rt)?;
-    let (cases, agreeing) = compare_all(rt, more)?;
+    let Score { cases, agreeing } = compare_all(rt, more)?;
     println!(rt; "{agreeing} of {cases} cases as published")?;
     print_long(rt, Block::new(0x66e9_4bd4_ef8a_2c3b_884c_fa59_ca34_2b2e))?;
     print_trials(rt)?;
     if more {
         print_files(rt)?;
     }
-    if let Ok(readings) = take_readings(Block::one(), Block::new(0xff)) {
-        print_readings(rt, &readings)?;
+    print_readings(rt, &take_readings(Block::one(), Block::new(0xff))?)?;
+    if agreeing != cases {
+        return Err(Fault::Differs);
     }
-    if agreeing == cases {
-        Ok(())
-    } else {
-        Err(Fault::Differs)
-    }
+    Ok(())
 }
 
 fn main(rt: HostRuntime) -> Result<(), Fault> {

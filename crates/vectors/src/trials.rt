@@ -1,25 +1,46 @@
 // Trials and makings, compared with plain evaluations.
-use crate::case::Fault;
+use crate::fault::Fault;
 use field::{Block, Element, Nibble};
-use polynomial::{Binary, make_polynomial, try_polynomial};
+use polynomial::{Accepted, Binary, make_polynomial, try_polynomial};
 
-// t^4 and the proposal's terms at a nibble, by powers.
-fn plain_value(key: Nibble, proposal: u8) -> Nibble {
-    let mut power = Nibble::one();
-    let mut sum = Nibble::zero();
-    for k in 0..4u8 {
-        if (proposal >> k) & 1 == 1 {
-            sum = sum.plus(power);
-        }
-        power = power.times(key);
-    }
-    sum.plus(power)
+// A key and a proposed polynomial, in four bits each.
+#[derive(Clone, Copy)]
+struct NibbleTrial {
+    key: Nibble,
+    proposal: Nibble,
 }
 
-// Whether a nibble's trial accepts.
-fn accepts(key: Nibble, proposal: Nibble) -> bool {
-    let mut scratch = [Nibble::zero(); 4];
-    try_polynomial(key, proposal, &mut scratch).is_ok()
+impl NibbleTrial {
+    fn new(both: u8) -> NibbleTrial {
+        NibbleTrial {
+            key: Nibble::new(both / 16),
+            proposal: Nibble::new(both),
+        }
+    }
+
+    // t^4 and the proposal's terms at the key, by powers.
+    fn plain_value(self) -> Nibble {
+        let mut power = Nibble::one();
+        let mut sum = Nibble::zero();
+        // The number is the power, no index.
+        for k in 0..4u8 {
+            if (self.proposal.bits() >> k) & 1 == 1 {
+                sum = sum.plus(power);
+            }
+            power = power.times(self.key);
+        }
+        sum.plus(power)
+    }
+
+    fn accepts(self) -> bool {
+        let mut scratch = [Nibble::zero(); 4];
+        try_polynomial(self.key, self.proposal, &mut scratch).is_ok()
+    }
+
+    // Whether the trial says what the plain value says.
+    fn agrees(self) -> bool {
+        self.accepts() == (self.plain_value() == Nibble::zero())
+    }
 }
 
 // Whether the subkey zero accepts the proposal whose only stored term is t^k.
@@ -28,54 +49,29 @@ fn zero_accepts(k: usize) -> bool {
     try_polynomial(Block::zero(), Block::zero().flip(k), &mut scratch).is_ok()
 }
 
-// How many of the 256 trials of a nibble agree with the plain value, and how many accept.
-fn try_nibbles() -> (u32, u32) {
-    let mut agreeing = 0u32;
-    let mut accepted = 0u32;
-    for both in 0..=255u8 {
-        let key = Nibble::new(both / 16);
-        let zero = plain_value(key, both % 16).bits() == 0;
-        let passed = accepts(key, Nibble::new(both));
-        if passed == zero {
-            agreeing = agreeing.saturating_add(1);
-        }
-        if passed {
-            accepted = accepted.saturating_add(1);
-        }
-    }
-    (agreeing, accepted)
-}
-
-// How many one-bit proposals the subkey zero accepts: all but the one with c_0 alone.
-fn try_zero() -> u32 {
-    let mut accepted = 0u32;
-    for k in 0..128usize {
-        if zero_accepts(k) {
-            accepted = accepted.saturating_add(1);
-        }
-    }
-    accepted
-}
-
+// All 256 trials of nibbles, and the subkey zero with each one-bit proposal: it accepts all but the one with c_0 alone.
 pub(crate) fn print_trials(rt: &HostRuntime) -> Result<(), Fault> {
-    let (agreeing, accepted) = try_nibbles();
+    let trials: Vec<NibbleTrial> = (0..=255u8).map(NibbleTrial::new).collect(rt.alloc())?;
+    let agreeing = trials.iter().filter(|trial| trial.agrees()).count();
+    let accepted = trials.iter().filter(|trial| trial.accepts()).count();
     println!(rt; "{agreeing} of 256 nibble trials agree, {accepted} accepted")?;
-    let zero = try_zero();
+    let zero = (0..128usize).filter(|k| zero_accepts(*k)).count();
     println!(rt; "subkey zero accepts {zero} of 128 proposals with one coefficient")?;
     Ok(())
 }
 
-// The maker's polynomial for a subkey, with the weight that the trial of it answers: what is checked here is the trial,
-// so that it is not `Accepted::make`.
+// The maker's polynomial for a subkey, as an accepted one.
+pub(crate) fn accepted(subkey: Block) -> Result<Accepted<Block>, Fault> {
+    let mut scratch = [Block::zero(); 128];
+    Ok(Accepted::make(subkey, &mut scratch)?)
+}
+
+// The maker's polynomial for a subkey, with the weight that the trial of it answers. The trial is what is looked at here, so that
+// `Accepted::make`, which needs none, does not do.
 pub(crate) fn print_made(rt: &HostRuntime, subkey: Block) -> Result<(), Fault> {
     let mut scratch = [Block::zero(); 128];
     let made = make_polynomial(subkey, &mut scratch)?;
     let trial = try_polynomial(subkey, made, &mut scratch)?;
-    println!(rt;
-        "maker {:032x}: {:032x} accepted, weight {}",
-        subkey.bits(),
-        made.bits(),
-        trial.weight
-    )?;
+    println!(rt; "maker {subkey}: {made} accepted, weight {}", trial.weight)?;
     Ok(())
 }
