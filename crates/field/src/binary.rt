@@ -43,6 +43,7 @@ pub(crate) fn product<P: Polynomial>(a: u128, b: u128) -> u128
 {
     let mut sum = 0;
     let mut power = b;
+    // Counted, since nothing hands out the bits of a number one by one.
     for k in 0..P::WIDTH {
         sum ^= masked(P::coefficient(a, k), power);
         power = P::raised(power);

@@ -15,7 +15,7 @@ pub enum Kind {
 pub struct NoKind(pub u8);
 
 impl Kind {
-    // The number that stands for it in a block.
+    // The number that stands for it in a block. No From, since the name says which number is meant.
     pub fn number(self) -> u8
         ensures { result ≡ number_of self }
     {

@@ -6,7 +6,7 @@ ghost use Rattle.polynomial.specs.Coefficients.{no_ones, block_placed};
 ghost use Rattle.std.proofs.Common.{lit<};
 
 use crate::binary::Binary;
-use field::Block;
+use field::{Block, Element};
 
 impl Binary for Block {
     ghost width = { 128 };
@@ -36,7 +36,7 @@ impl Binary for Block {
     }
 
     fn is_zero(self) -> bool {
-        self.bits() == 0
+        self == Block::zero()
     }
 
     fn weight(self) -> u32 {

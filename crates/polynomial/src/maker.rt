@@ -28,6 +28,7 @@ fn expand<E: Element + Copy>(coefficients: &mut [E], subkey: E)
     ensures { coefficients.new ≡ lower E.Element subkey (length coefficients.old) }
 {
     let mut root = subkey;
+    // Counted, since each round writes the growing front and the place behind it at once.
     for degree in 0..coefficients.len() {
         coefficients[degree] = multiply(&mut coefficients[..degree], root);
         root = root.times(root);

@@ -6,7 +6,7 @@ ghost use Rattle.polynomial.specs.Coefficients.{no_ones, nibble_placed};
 ghost use Rattle.std.proofs.Common.{lit<};
 
 use crate::binary::Binary;
-use field::Nibble;
+use field::{Element, Nibble};
 
 impl Binary for Nibble {
     ghost width = { 4 };
@@ -36,7 +36,7 @@ impl Binary for Nibble {
     }
 
     fn is_zero(self) -> bool {
-        self.bits() == 0
+        self == Nibble::zero()
     }
 
     fn weight(self) -> u32 {

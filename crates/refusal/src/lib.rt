@@ -41,7 +41,7 @@ pub enum Refusal {
 }
 
 impl Refusal {
-    // The number that users and other programs know the refusal by.
+    // The number that users and other programs know the refusal by. No From, since the name says which number is meant.
     pub fn number(self) -> u8
         ensures { result ≡ number_of self }
     {
