@@ -63,8 +63,8 @@ answers_append part given taken (c ∷ cs) ds =
     ∙ ap (λ bytes. answers_to part given after cs ++ answers_to part given bytes ds)
     (append_assoc taken (brought c a) (accepted cs (answers_to part given after cs))))
 
-module _ {E : Type 0} (m : Ghosts E) (part : Part) (h : Block) (given : Bool) (before : List Block) where
-  pub answered_none : (f : Filling E) (taken : List ℕ) (xs : List Answer) → xs ≡ [] → Holds m h given before f taken → Answered m part h given before f taken [] xs f
+module _ {E : Type 0} (m : Ghosts E) (h : Block) (given : Bool) (before : List Block) where
+  pub answered_none : (f : Filling E) (taken : List ℕ) (xs : List Answer) → xs ≡ [] → Holds m h given before f taken → Answered m h given before f taken [] xs f
   answered_none f taken xs none held = record {
     said = none;
     holds = subst (λ (bytes : List ℕ). Holds m h given before f bytes) (sym (append-nil taken)) held;
@@ -72,14 +72,16 @@ module _ {E : Type 0} (m : Ghosts E) (part : Part) (h : Block) (given : Bool) (b
   }
 
   pub answered_append : (f g t : Filling E) (taken : List ℕ) (cs ds : List Call) (xs ys : List Answer)
-      → Answered m part h given before f taken cs xs g → Answered m part h given before g (taken ++ accepted cs xs) ds ys t
-      → Answered m part h given before f taken (cs ++ ds) (xs ++ ys) t
-  answered_append f g t taken cs ds xs ys a b =
+      → Answered m h given before f taken cs xs g → Answered m h given before g (taken ++ accepted cs xs) ds ys t → g.part ≡ f.part
+      → Answered m h given before f taken (cs ++ ds) (xs ++ ys) t
+  answered_append f g t taken cs ds xs ys a b kept =
+      let part : Part = f.part in
       let same : length xs ≡ length cs = ap length a.said ∙ length_answers part given taken cs in
+      let said : ys ≡ answers_to part given (taken ++ accepted cs xs) ds = b.said ∙ ap (λ p. answers_to p given (taken ++ accepted cs xs) ds) kept in
       record {
         said =
             ap₂ (λ us vs. us ++ vs) a.said
-            (b.said ∙ ap (λ us. answers_to part given (taken ++ accepted cs us) ds) a.said)
+            (said ∙ ap (λ us. answers_to part given (taken ++ accepted cs us) ds) a.said)
             ∙ sym (answers_append part given taken cs ds);
         holds =
             subst (λ (bytes : List ℕ). Holds m h given before t bytes)
@@ -89,8 +91,8 @@ module _ {E : Type 0} (m : Ghosts E) (part : Part) (h : Block) (given : Bool) (b
             (chain_append m (operations_of taken cs xs) (operations_of (taken ++ accepted cs xs) ds ys) f.engine g.engine t.engine a.chain b.chain);
       }
 
-  alone : (taken : List ℕ) (c : Call) (a : Answer) (f t : Filling E) → a ≡ answer_to part given taken c → Holds m h given before t (taken ++ brought c a)
-      → Chain m (operations_for taken c a) f.engine t.engine → Answered m part h given before f taken (c ∷ []) (a ∷ []) t
+  alone : (taken : List ℕ) (c : Call) (a : Answer) (f t : Filling E) → a ≡ answer_to f.part given taken c → Holds m h given before t (taken ++ brought c a)
+      → Chain m (operations_for taken c a) f.engine t.engine → Answered m h given before f taken (c ∷ []) (a ∷ []) t
   alone taken c a f t said holds chain = record {
     said = ap (λ x. x ∷ []) said;
     holds = subst (λ (bytes : List ℕ). Holds m h given before t (taken ++ bytes)) (sym (append-nil (brought c a))) holds;
@@ -105,7 +107,7 @@ module _ {E : Type 0} (m : Ghosts E) (part : Part) (h : Block) (given : Bool) (b
         subst (λ (b : Bool). Holds m h given before t (taken ++ cond b piece [])) (sym same)
         (subst (λ (bytes : List ℕ). Holds m h given before t bytes) (sym (append-nil taken)) holds)
 
-    told : (b : Bool) → is_ok (cond {A = Answer} b (Ok tt) (Err (refusal_of_part part))) ≡ b
+    told : (b : Bool) → is_ok (cond {A = Answer} b (Ok tt) (Err (refusal_of_part f.part))) ≡ b
     told true = refl
     told false = refl
 
@@ -117,16 +119,16 @@ module _ {E : Type 0} (m : Ghosts E) (part : Part) (h : Block) (given : Bool) (b
     fed_operations (Err x) same held =
         subst (λ (ps : List Block). Chain m (map absorb ps) f.engine t.engine) (sym (no_new_blocks taken)) (ap (λ u. u.engine) same)
 
-  pub answered_feed : (f t : Filling E) (taken : List ℕ) (ref : Bor (List ℕ)) (a : Answer) → a ≡ feed_answer part taken ref.now
-      → Holds m h given before t (joined part taken ref.now) → MatchResult a (λ _. Fed m f ref.now t) (λ _. t ≡ f) → Holds m h given before f taken
-      → Answered m part h given before f taken (Feed ref ∷ []) (a ∷ []) t
+  pub answered_feed : (f t : Filling E) (taken : List ℕ) (ref : Bor (List ℕ)) (a : Answer) → a ≡ feed_answer f.part taken ref.now
+      → Holds m h given before t (joined f.part taken ref.now) → MatchResult a (λ _. Fed m f ref.now t) (λ _. t ≡ f) → Holds m h given before f taken
+      → Answered m h given before f taken (Feed ref ∷ []) (a ∷ []) t
   answered_feed f t taken ref a said holds whole held =
       alone taken (Feed ref) a f t said
-      (took f t taken ref.now a (fits part taken ref.now) (ap is_ok said ∙ told f t taken ref.now (fits part taken ref.now)) holds)
+      (took f t taken ref.now a (fits f.part taken ref.now) (ap is_ok said ∙ told f t taken ref.now (fits f.part taken ref.now)) holds)
       (fed_operations f t taken ref.now a whole held)
 
   pub answered_switch : (f t : Filling E) (taken : List ℕ) (a : Answer) → a ≡ switch_answer given → Holds m h given before t taken
-      → Switched m f (is_ok a) t → Answered m part h given before f taken (Switch ∷ []) (a ∷ []) t
+      → Switched m f (is_ok a) t → Answered m h given before f taken (Switch ∷ []) (a ∷ []) t
   answered_switch f t taken a said holds whole =
       alone taken Switch a f t said (subst (λ (bytes : List ℕ). Holds m h given before t bytes) (sym (append-nil taken)) holds)
       (t.engine, whole.engine, refl)

@@ -1,6 +1,6 @@
 -- The full blocks of bytes that are put together.
-use Rattle.std.proofs.Common.{◌≡◌, ℕ, zero, suc, ◌+◌, ◌-◌, ◌*◌, ◌/◌, ◌%◌, ◌<◌, ◌≤◌, List, [], ◌∷◌, ◌++◌, length, take, drop, replicate, sym, refl, ap, ◌∙◌, ap₂, append-nil, zero-add, arith, length-append, length-drop}
-use Rattle.std.proofs.lemmas.List.{take-append-le, drop-append-le, drop-drop, take_all, drop_all}
+use Rattle.std.proofs.Common.{◌≡◌, ℕ, zero, suc, ◌+◌, ◌-◌, ◌*◌, ◌/◌, ◌%◌, ◌<◌, ◌≤◌, List, [], ◌∷◌, ◌++◌, length, take, drop, sym, refl, ap, ◌∙◌, ap₂, zero-add, arith, length-append, length-drop}
+use Rattle.std.proofs.lemmas.List.{take-append-le, drop-append-le, drop-drop, drop_all}
 use Rattle.field.specs.Bytes.{block_of}
 use Rattle.message.specs.Blocks.{blocks_taken, filled, cut, blocks}
 use Rattle.job.specs.Cuts.{full_blocks, left_over}
@@ -55,15 +55,9 @@ pub left_short : (xs : List ℕ) → length xs < 16 → left_over xs ≡ xs
 unfolding left_over
 left_short xs short = let e : 16 * (length xs / 16) ≡ 0 = omega arith in ap (λ n. drop n xs) e
 
-pub full_one : (xs : List ℕ) → length xs ≡ 16 → full_blocks xs ≡ block_of xs ∷ []
+pub full_one : (xs : List ℕ) → length xs ≡ 16 → full_blocks xs ≡ block_of (filled (take 16 xs)) ∷ []
 unfolding full_blocks
-full_one xs sixteen =
-    let e : length xs / 16 ≡ 1 = omega arith in
-    let full : 16 - length xs ≡ 0 = omega arith in
-    ap (λ n. cut n xs) e
-    ∙ ap (λ p. block_of (filled p) ∷ []) (take_all 16 xs (omega arith))
-    ∙ ap (λ n. block_of (xs ++ replicate n 0) ∷ []) full
-    ∙ ap (λ p. block_of p ∷ []) (append-nil xs)
+full_one xs sixteen = let e : length xs / 16 ≡ 1 = omega arith in ap (λ n. cut n xs) e
 
 pub left_none : (xs : List ℕ) → length xs ≡ 16 → left_over xs ≡ []
 unfolding left_over
@@ -72,6 +66,11 @@ left_none xs sixteen = drop_all _ xs (omega arith)
 pub length_left : (xs : List ℕ) → length (left_over xs) ≡ length xs % 16
 unfolding left_over
 length_left xs = length-drop (16 * (length xs / 16)) xs ∙ omega arith
+
+-- the bytes that wait at the end of a part
+pub last_block : (xs : List ℕ) → 0 < length xs → length xs ≤ 16 → blocks xs ≡ block_of (filled (take 16 xs)) ∷ []
+unfolding blocks
+last_block xs some few = let one : blocks_taken (length xs) ≡ 1 = omega arith in ap (λ n. cut n xs) one
 
 -- a part's blocks are its full ones, and one more where bytes are left
 pub blocks_full : (xs : List ℕ) → blocks xs ≡ full_blocks xs ++ blocks (left_over xs)

@@ -1,6 +1,5 @@
 -- One piece after another, and what the job holds then.
-use Rattle.std.proofs.Common.{◌≡◌, ℕ, ◌+◌, ◌%◌, ◌<◌, Bool, List, [], ◌++◌, length, sym, ap, ◌∙◌, subst, append_assoc, append-nil, arith, length-append}
-use Rattle.std.proofs.lemmas.List.{length-take}
+use Rattle.std.proofs.Common.{◌≡◌, ℕ, ◌+◌, ◌<◌, Bool, List, [], ◌++◌, length, sym, refl, ap, ◌∙◌, subst, ap₂, append_assoc, append-nil, arith, length-append}
 use Rattle.field.specs.Evaluation.{eval}
 use Rattle.field.specs.Kinds.{block_ring}
 use Rattle.field.specs.declared.kinds.Block.{Block}
@@ -10,45 +9,57 @@ use Rattle.engine.specs.Rows.{Hashed}
 use Rattle.engine.specs.declared.engine.Engine.{Ghosts}
 use Rattle.engine.proofs.HashedRows.{hashed_none, hashed_append, hashed_eval}
 use Rattle.job.specs.Cuts.{full_blocks, left_over}
-use Rattle.job.specs.Jobs.{Fed, Flushed, Holds, pending}
+use Rattle.job.specs.Jobs.{Cut, Fed, Flushed, Holds, pending}
 use Rattle.job.specs.declared.state.Filling.{Filling}
-use Rattle.job.proofs.Cutting.{full_append, left_append, full_short, left_short, length_left, blocks_full}
-use Rattle.job.proofs.Waiting.{waiting}
+use Rattle.job.proofs.Cutting.{full_append, left_append, full_short, left_short, blocks_full}
 
 module _ {E : Type 0} (m : Ghosts E) where
-  module _ (f g h : Filling E) (xs ys : List ℕ) (a : Fed m f xs g) (b : Fed m g ys h) where
+  -- a row that is empty
+  pub row_none : (e : E) (ps : List Block) → ps ≡ [] → Hashed m e ps e
+  row_none e ps none = subst (λ (qs : List Block). Hashed m e qs e) (sym none) (hashed_none m e)
+
+  module _ (f g h : Filling E) (xs ys : List ℕ) (a : Cut m f xs g) (b : Cut m g ys h) where
     both : full_blocks (pending f ++ (xs ++ ys)) ≡ full_blocks (pending f ++ xs) ++ full_blocks (pending g ++ ys)
     both =
         ap full_blocks (sym (append_assoc (pending f) xs ys)) ∙ full_append (pending f ++ xs) ys
         ∙ ap (λ w. full_blocks (pending f ++ xs) ++ full_blocks (w ++ ys)) (sym a.left)
 
-    pub fed_append : Fed m f (xs ++ ys) h
-    fed_append = record {
+    pub cut_append : Cut m f (xs ++ ys) h
+    cut_append = record {
       hashed =
           subst (λ (ps : List Block). Hashed m f.engine ps h.engine) (sym both)
           (hashed_append m f.engine g.engine h.engine (full_blocks (pending f ++ xs)) (full_blocks (pending g ++ ys)) a.hashed b.hashed);
       left =
           b.left ∙ ap (λ w. left_over (w ++ ys)) a.left ∙ sym (left_append (pending f ++ xs) ys)
           ∙ ap left_over (append_assoc (pending f) xs ys);
-      count = simp length-append (omega (arith, a.count, b.count));
+      count = b.count ∙ a.count;
+      part = b.part ∙ a.part;
     }
 
-  -- how many bytes wait after a piece
-  pub fed_fill : (f t : Filling E) (piece : List ℕ) → Fed m f piece t → t.fill ≡ (f.fill + length piece) % 16
-  fed_fill f t piece fed =
-      sym (waiting t.held t.fill t.room t.blank)
-      ∙ ap length fed.left ∙ length_left (pending f ++ piece)
-      ∙ ap (λ n. n % 16) (length-append (pending f) piece ∙ ap (λ n. n + length piece) (waiting f.held f.fill f.room f.blank))
-
   -- no bytes at all
-  pub fed_none : (f : Filling E) → Fed m f [] f
-  fed_none f =
+  pub cut_none : (f : Filling E) → Cut m f [] f
+  cut_none f =
       let e : pending f ++ [] ≡ pending f = append-nil (pending f) in
-      let short : length (pending f ++ []) < 16 = rw (append-nil, length-take) (omega (arith, f.room)) in
+      let short : length (pending f ++ []) < 16 = rw append-nil f.room in
       record {
-        hashed = subst (λ (ps : List Block). Hashed m f.engine ps f.engine) (sym (full_short (pending f ++ []) short)) (hashed_none m f.engine);
+        hashed = row_none f.engine _ (full_short (pending f ++ []) short);
         left = sym (left_short (pending f ++ []) short ∙ e);
-        count = omega arith;
+        count = refl;
+        part = refl;
+      }
+
+  -- the count was raised before
+  pub fed_by : (f s t : Filling E) (xs piece : List ℕ) → Cut m s xs t → xs ≡ piece → s.engine ≡ f.engine → pending s ≡ pending f
+      → s.count ≡ f.count + length piece → s.part ≡ f.part → Fed m f piece t
+  fed_by f s t xs piece cut all engine held count part =
+      let bytes : pending s ++ xs ≡ pending f ++ piece = ap₂ (λ us vs. us ++ vs) held all in
+      record {
+        hashed =
+            subst (λ (e : E). Hashed m e (full_blocks (pending f ++ piece)) t.engine) engine
+            (subst (λ (ys : List ℕ). Hashed m s.engine (full_blocks ys) t.engine) bytes cut.hashed);
+        left = cut.left ∙ ap left_over bytes;
+        count = cut.count ∙ count;
+        part = cut.part ∙ part;
       }
 
   module _ (h : Block) (switches : Bool) (before : List Block) (f t : Filling E) (taken : List ℕ) (held : Holds m h switches before f taken) where

@@ -1,5 +1,4 @@
 pub mod Cutting
-pub mod Waiting
 pub mod Feeding
 pub mod Same
 pub mod Closing

@@ -1,24 +1,29 @@
--- Jobs that hold the same are the same, and answers by cases.
-use Rattle.std.proofs.Common.{◌≡◌, ◌≤◌, Ok, Err, Result, MatchResult}
-use mathlib.Core.HLevel.{is_prop→PathP}
+-- Jobs that hold the same are the same.
+use Rattle.std.proofs.Common.{◌≡◌, ◌≤◌, refl}
+use mathlib.Core.HLevel.{is_prop→PathP, hedberg}
 use native.Mathlib.Bridge.{le_prop}
+use Rattle.message.specs.declared.part.Part.{Part}
+use Rattle.message.specs.declared.part.Part.TheVariants.{Header, Body}
 use Rattle.job.specs.declared.state.HeaderJob.{HeaderJob}
 use Rattle.job.specs.declared.state.BodyJob.{BodyJob}
+
+same_part : (p q : Part) → Dec (p ≡ q)
+same_part Header Header = yes refl
+same_part Header Body = no (λ e. cc)
+same_part Body Header = no (λ e. cc)
+same_part Body Body = yes refl
 
 module _ {E : Type 0} where
   pub same_header : (u v : HeaderJob E) → u.filling ≡ v.filling → u ≡ v
   same_header u v e i = record {
     filling = e i;
-    short = is_prop→PathP (λ j. (e j).count ≤ 65535) (λ j. le_prop) u.short v.short i;
+    taking = is_prop→PathP (λ j. (e j).part ≡ Header) (λ j. hedberg same_part (e j).part Header) u.taking v.taking i;
   }
 
   pub same_body : (u v : BodyJob E) → u.filling ≡ v.filling → u.header ≡ v.header → u ≡ v
   same_body u v e n i = record {
     filling = e i;
     header = n i;
+    taking = is_prop→PathP (λ j. (e j).part ≡ Body) (λ j. hedberg same_part (e j).part Body) u.taking v.taking i;
     short = is_prop→PathP (λ j. n j ≤ 65535) (λ j. le_prop) u.short v.short i;
   }
-
-pub cases_on : {A B : Type 0} (r : Result A B) {P P' : A → Type 0} {Q Q' : B → Type 0} → MatchResult r P Q → ((x : A) → P x → P' x) → ((y : B) → Q y → Q' y) → MatchResult r P' Q'
-cases_on (Ok x) a f g = f x a
-cases_on (Err y) a f g = g y a

@@ -1,5 +1,5 @@
 -- What a job did with its bytes, and what it holds.
-use Rattle.std.specs.Prelude.{◌≡◌, ℕ, ◌+◌, Bool, List, [], ◌∷◌, ◌++◌, length, take}
+use Rattle.std.specs.Prelude.{◌≡◌, ℕ, ◌+◌, Bool, List, [], ◌∷◌, ◌++◌, length}
 use Rattle.field.specs.Evaluation.{eval}
 use Rattle.field.specs.Kinds.{block_ring}
 use Rattle.field.specs.declared.kinds.Block.{Block}
@@ -15,26 +15,36 @@ use Rattle.job.specs.declared.state.Closed.{Closed}
 
 -- the bytes that wait for their block
 abbrev pub pending : {E : Type 0} → Filling E → List ℕ
-pending f = take f.fill f.held
+pending f = f.held.items
 
 module _ {E : Type 0} (m : Ghosts E) where
+  -- Bytes were cut into blocks: those that they fill are hashed, and the rest waits. Only private functions cite it.
+  pub record Cut (f : Filling E) (bytes : List ℕ) (t : Filling E) : Type 0 where
+    pub hashed : Hashed m f.engine (full_blocks (pending f ++ bytes)) t.engine
+    pub left : pending t ≡ left_over (pending f ++ bytes)
+    pub count : t.count ≡ f.count
+    pub part : t.part ≡ f.part
+
   -- From one state to the next by the bytes of a piece: the blocks that it fills are hashed, the rest waits.
   pub record Fed (f : Filling E) (piece : List ℕ) (t : Filling E) : Type 0 where
     pub hashed : Hashed m f.engine (full_blocks (pending f ++ piece)) t.engine
     pub left : pending t ≡ left_over (pending f ++ piece)
     pub count : t.count ≡ f.count + length piece
+    pub part : t.part ≡ f.part
 
   -- The waiting bytes were hashed, filled with zeros; none wait now.
   pub record Flushed (f t : Filling E) : Type 0 where
     pub hashed : Hashed m f.engine (blocks (pending f)) t.engine
     pub left : pending t ≡ []
     pub count : t.count ≡ f.count
+    pub part : t.part ≡ f.part
 
   -- The engine was asked to switch; the bytes stay.
   pub record Switched (f : Filling E) (answer : Bool) (t : Filling E) : Type 0 where
     pub engine : m.switched f.engine answer t.engine
-    pub left : (t.held ≡ f.held) × (t.fill ≡ f.fill)
+    pub left : t.held ≡ f.held
     pub count : t.count ≡ f.count
+    pub part : t.part ≡ f.part
 
   -- The engine came with this subkey and this ready, and after the blocks before it the part has taken these bytes:
   -- T is the evaluation of the blocks already full.

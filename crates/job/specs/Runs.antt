@@ -12,7 +12,6 @@ use Rattle.job.specs.Jobs.{Holds, Closes}
 use Rattle.job.specs.Plain.{Answer, brought, accepted, answers_to}
 use Rattle.job.specs.declared.call.Call.{Call}
 use Rattle.job.specs.declared.call.Call.TheVariants.{Feed, Switch}
-use Rattle.message.specs.declared.part.Part.{Part}
 use Rattle.message.specs.declared.part.Part.TheVariants.{Header, Body}
 use Rattle.job.specs.declared.replayed.Replayed.{Replayed}
 use Rattle.job.specs.declared.state.Filling.{Filling}
@@ -80,9 +79,9 @@ pub record InOrder (hs : List Call) (xs : List Answer) (bs : List Call) (ys : Li
   pub switches : gathered switch_of (run_operations hs xs bs ys) ≡ switch_answers hs xs ++ switch_answers bs ys
 
 -- From one state to another by a list of calls with their answers.
-pub record Answered {E : Type 0} (m : Ghosts E) (part : Part) (h : Block) (given : Bool) (before : List Block) (f : Filling E) (taken : List ℕ)
+pub record Answered {E : Type 0} (m : Ghosts E) (h : Block) (given : Bool) (before : List Block) (f : Filling E) (taken : List ℕ)
     (calls : List Call) (answers : List Answer) (t : Filling E) : Type 0 where
-  pub said : answers ≡ answers_to part given taken calls
+  pub said : answers ≡ answers_to f.part given taken calls
   pub holds : Holds m h given before t (taken ++ accepted calls answers)
   pub chain : Chain m (operations_of taken calls answers) f.engine t.engine
 

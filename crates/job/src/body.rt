@@ -10,7 +10,7 @@ ghost use Rattle.message.specs.declared.part.Part.TheVariants.{Body};
 use crate::state::{BodyJob, Closed, Filling};
 use engine::Engine;
 use field::{Block, Element};
-use message::{Part, block_of_byte_counts};
+use message::block_of_byte_counts;
 use refusal::Refusal;
 
 impl<E: Engine> BodyJob<E> {
@@ -19,7 +19,7 @@ impl<E: Engine> BodyJob<E> {
         ensures holds { (h : Block) (switches : Bool) (header body : List ℕ) → BodyHolds E.Engine h switches self.old header body → (result ≡ feed_answer Body body piece.now) × BodyHolds E.Engine h switches self.new header (joined Body body piece.now) }
         ensures whole { MatchResult result (λ _. Fed E.Engine self.old.filling piece.now self.new.filling) (λ _. self.new ≡ self.old) }
     {
-        self.filling.put(Part::Body, piece)
+        self.filling.put(piece)
     }
 
     // The engine's own answer; a half-filled block stays.
@@ -36,16 +36,16 @@ impl<E: Engine> BodyJob<E> {
         ensures standard { (h : Block) (switches : Bool) (header body : List ℕ) → BodyHolds E.Engine h switches self header body → MeetsStandard h pad header body result.hash result.tag }
         ensures whole { ClosedBy E.Engine self result.engine }
     {
-        let BodyJob { filling, header } = self;
-        let mut filling = filling;
+        let BodyJob {
+            mut filling,
+            header,
+        } = self;
         filling.flush();
         let Filling {
-            engine,
-            held: _,
-            fill: _,
+            mut engine,
             count,
+            ..
         } = filling;
-        let mut engine = engine;
         engine.absorb(block_of_byte_counts(header, count));
         let hash = engine.value();
         let tag = hash.plus(pad);

@@ -8,6 +8,7 @@ ghost use Rattle.job.specs.Plain.{feed_answer, joined};
 ghost use Rattle.message.specs.declared.part.Part.TheVariants.{Header};
 
 use crate::state::{BodyJob, Filling, HeaderJob};
+use arrayvec::ArrayVec;
 use engine::Engine;
 use field::{Block, Element};
 use message::Part;
@@ -15,17 +16,16 @@ use refusal::Refusal;
 
 impl<E: Engine> HeaderJob<E> {
     // The engine starts at zero, whatever it hashed before.
-    pub fn start(engine: E) -> HeaderJob<E>
+    pub fn start(mut engine: E) -> HeaderJob<E>
         ensures holds { HeaderHolds E.Engine (E.subkey_of engine) (E.ready_of engine) result [] }
         ensures whole { E.resumed engine block_ring.zero result.filling.engine }
     {
-        let mut engine = engine;
         engine.resume(Block::zero());
         HeaderJob {
             filling: Filling {
                 engine,
-                held: [0; 16],
-                fill: 0,
+                part: Part::Header,
+                held: ArrayVec::new(),
                 count: 0,
             },
         }
@@ -36,7 +36,7 @@ impl<E: Engine> HeaderJob<E> {
         ensures holds { (h : Block) (switches : Bool) (header : List ℕ) → HeaderHolds E.Engine h switches self.old header → (result ≡ feed_answer Header header piece.now) × HeaderHolds E.Engine h switches self.new (joined Header header piece.now) }
         ensures whole { MatchResult result (λ _. Fed E.Engine self.old.filling piece.now self.new.filling) (λ _. self.new ≡ self.old) }
     {
-        self.filling.put(Part::Header, piece)
+        self.filling.put(piece)
     }
 
     // The engine's own answer; a half-filled block stays.
@@ -52,11 +52,11 @@ impl<E: Engine> HeaderJob<E> {
         ensures holds { (h : Block) (switches : Bool) (header : List ℕ) → HeaderHolds E.Engine h switches self header → BodyHolds E.Engine h switches result header [] }
         ensures whole { Turned E.Engine self result }
     {
-        let HeaderJob { filling } = self;
-        let mut filling = filling;
+        let HeaderJob { mut filling } = self;
         filling.flush();
         let header = filling.count;
         filling.count = 0;
+        filling.part = Part::Body;
         BodyJob { filling, header }
     }
 }

@@ -2,7 +2,6 @@
 ghost use Rattle.std.specs.Prelude.{◌≡◌, ℕ, ◌≤◌, Bool, List, [], ◌∷◌, length, vec_capacity, MatchResult};
 ghost use Rattle.field.specs.declared.kinds.Block.{Block};
 ghost use Rattle.job.specs.Jobs.{Holds};
-ghost use Rattle.message.specs.Limits.{limit_of};
 ghost use Rattle.job.specs.Runs.{Answered, Replays};
 
 use crate::call::Call;
@@ -10,37 +9,29 @@ use crate::replayed::Replayed;
 use crate::state::{Filling, HeaderJob};
 use engine::Engine;
 use field::Block;
-use message::Part;
 use refusal::Refusal;
 use std::alloc::Global;
 
 impl<E: Engine> Filling<E> {
-    fn answer(&mut self, part: Part, call: &Call) -> Result<(), Refusal>
-        requires { self.old.count ≤ limit_of part }
-        ensures count { self.new.count ≤ limit_of part }
-        ensures answered { (h : Block) (given : Bool) (before : List Block) (taken : List ℕ) → Holds E.Engine h given before self.old taken → Answered E.Engine part h given before self.old taken (call.now ∷ []) (result ∷ []) self.new }
+    fn answer(&mut self, call: &Call) -> Result<(), Refusal>
+        ensures part { self.new.part ≡ self.old.part }
+        ensures answered { (h : Block) (given : Bool) (before : List Block) (taken : List ℕ) → Holds E.Engine h given before self.old taken → Answered E.Engine h given before self.old taken (call.now ∷ []) (result ∷ []) self.new }
     {
         match call {
-            Call::Feed(piece) => self.put(part, piece),
+            Call::Feed(piece) => self.put(piece),
             Call::Switch => self.switch(),
         }
     }
 
     // Every call in turn, each answer pushed to the end of the answers.
-    pub(crate) fn answer_all(
-        &mut self,
-        part: Part,
-        calls: &[Call],
-        answers: &mut Vec<Result<(), Refusal>>,
-    )
-        requires count { self.old.count ≤ limit_of part }
+    pub(crate) fn answer_all(&mut self, calls: &[Call], answers: &mut Vec<Result<(), Refusal>>)
         requires none { answers.old.items ≡ [] }
         requires room { length calls.now ≤ vec_capacity answers.old }
-        ensures count { self.new.count ≤ limit_of part }
-        ensures answered { (h : Block) (given : Bool) (before : List Block) (taken : List ℕ) → Holds E.Engine h given before self.old taken → Answered E.Engine part h given before self.old taken calls.now answers.new.items self.new }
+        ensures part { self.new.part ≡ self.old.part }
+        ensures answered { (h : Block) (given : Bool) (before : List Block) (taken : List ℕ) → Holds E.Engine h given before self.old taken → Answered E.Engine h given before self.old taken calls.now answers.new.items self.new }
     {
-        for i in 0..calls.len() {
-            answers.push_reserved(self.answer(part, &calls[i]));
+        for call in calls {
+            answers.push_reserved(self.answer(call));
         }
     }
 }
@@ -63,10 +54,9 @@ pub fn replay<E: Engine>(
         return Err(engine);
     };
     let mut job = HeaderJob::start(engine);
-    job.filling
-        .answer_all(Part::Header, header, &mut header_answers);
+    job.filling.answer_all(header, &mut header_answers);
     let mut job = job.turn();
-    job.filling.answer_all(Part::Body, body, &mut body_answers);
+    job.filling.answer_all(body, &mut body_answers);
     Ok(Replayed {
         header: header_answers,
         body: body_answers,

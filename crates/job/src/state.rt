@@ -1,26 +1,30 @@
 // What a job holds, in each of its states.
-ghost use Rattle.std.specs.Prelude.{◌≡◌, ◌-◌, ◌<◌, ◌≤◌, drop, replicate};
+ghost use Rattle.std.specs.Prelude.{◌≡◌, ◌<◌, ◌≤◌};
+ghost use Rattle.arrayvec.specs.ArrayVec.{array_vec_len};
+ghost use Rattle.message.specs.Limits.{header_limit, limit_of};
+ghost use Rattle.message.specs.declared.part.Part.TheVariants.{Header, Body};
 
+use arrayvec::ArrayVec;
 use field::Block;
+use message::Part;
 
-// An engine that is fed bytes: those that fill no block yet wait in `held`.
+// An engine that is fed the bytes of a part: those that fill no block yet wait in `held`.
 #[derive(Drop)]
 pub struct Filling<E> {
     pub(crate) engine: E,
-    pub(crate) held: [u8; 16],
-    pub(crate) fill: usize,
+    pub(crate) part: Part,
+    pub(crate) held: ArrayVec<u8, 16>,
     // The bytes of the part that were taken so far.
     pub(crate) count: u64,
-    ghost room: { fill < 16 },
-    ghost blank: { drop fill held ≡ replicate (16 - fill) 0 },
-    ghost few: { count ≤ 68719476704 },
+    ghost room: { array_vec_len held < 16 },
+    ghost few: { count ≤ limit_of part },
 }
 
-// A job that takes its header.
+// A job that takes its header. Two types, and no `Job<E, S>`: what only one state holds or does would need a trait over S.
 #[derive(Drop)]
 pub struct HeaderJob<E> {
     pub(crate) filling: Filling<E>,
-    ghost short: { filling.count ≤ 65535 },
+    ghost taking: { filling.part ≡ Header },
 }
 
 // A job that takes its body; the header's length is kept for the length block.
@@ -28,7 +32,8 @@ pub struct HeaderJob<E> {
 pub struct BodyJob<E> {
     pub(crate) filling: Filling<E>,
     pub(crate) header: u64,
-    ghost short: { header ≤ 65535 },
+    ghost taking: { filling.part ≡ Body },
+    ghost short: { header ≤ header_limit },
 }
 
 // What a job ends with.

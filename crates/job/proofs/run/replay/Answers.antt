@@ -1,10 +1,12 @@
-use Rattle.std.proofs.Common.{◌≡◌, ℕ, ◌≤◌, List, [], ◌∷◌, ◌++◌, map, length, vec_items, sym, ap, ◌∙◌, subst, ap₂}
+use Rattle.std.proofs.Common.{◌≡◌, ℕ, ◌≤◌, List, [], ◌∷◌, ◌++◌, map, length, vec_items, sym, ap, ◌∙◌, subst, ap₂, arith}
 use Rattle.field.specs.declared.kinds.Block.{Block}
 use Rattle.message.specs.Blocks.{blocks, block_of_counts}
+use Rattle.message.specs.Limits.{body_limit, limit_of}
+use Rattle.message.specs.declared.part.Part.{Part}
 use Rattle.engine.specs.Chain.{absorb, Chain}
 use Rattle.engine.proofs.Chains.{chain_append}
 use Rattle.job.specs.Jobs.{pending}
-use Rattle.job.specs.Plain.{Answer, accepted}
+use Rattle.job.specs.Plain.{Answer, accepted, answers_to}
 use Rattle.job.specs.Runs.{final_block, operations_of}
 use Rattle.job.specs.declared.call.Call.{Call}
 use Rattle.job.proofs.Ordering.{in_order, last_left}
@@ -36,10 +38,11 @@ returns g c =
     let ends : blocks (pending t) ++ (block_of_counts j.header t.count ∷ []) ≡ last =
     ap₂ (λ ps p. ps ++ (p ∷ [])) (ap blocks second.holds.left ∙ sym (last_left body)) lengths in
     let close : Chain m (map absorb last) t.engine e = subst (λ (ps : List Block). Chain m (map absorb ps) t.engine e) ends c.close.ensures.whole.chain in
+    let few : t.count ≤ body_limit = subst (λ (p : Part). t.count ≤ limit_of p) (c.answer_all-2.ensures.part ∙ j.taking) t.few in
     record {
-      header = first.said;
-      body = second.said;
-      short = (subst (λ (n : ℕ). n ≤ 65535) turned.before j.short, subst (λ (n : ℕ). n ≤ 68719476704) second.holds.count t.few);
+      header = first.said ∙ ap (λ p. answers_to p given [] hs) c.start-job.result.taking;
+      body = second.said ∙ ap (λ p. answers_to p given [] bs) j.taking;
+      short = (subst (λ (n : ℕ). n ≤ 65535) turned.before j.short, omega (arith, few, second.holds.count));
       closes = c.close.ensures.closes h given header body record { before = turned.before; bytes = turned.bytes; holds = second.holds };
       standard = c.close.ensures.standard h given header body record { before = turned.before; bytes = turned.bytes; holds = second.holds };
       chain = (

@@ -1,4 +1,4 @@
-use Rattle.std.proofs.Common.{◌+◌, List, [], ◌∷◌, ◌++◌, length, get_or, take, vec_items, sym, ap, ◌∙◌, subst, arith}
+use Rattle.std.proofs.Common.{◌+◌, List, [], ◌∷◌, ◌++◌, length, get_or, take, vec_items, sym, refl, ap, ◌∙◌, subst, arith}
 use Rattle.std.proofs.lemmas.List.{take_more, take_all}
 use Rattle.job.specs.Plain.{Answer, accepted}
 use Rattle.job.specs.Runs.{Answered}
@@ -11,46 +11,45 @@ use Rattle.job.proofs.state.Filling.answer_all.Goals as goal
 abbrev past : Call
 past = Feed record { ref_ptr = (0, 0); now = [] }
 
-pub loop-i-init : goal.loop-i-init
-loop-i-init g c = (
-  c.requires.count,
+pub loop-call-init : goal.loop-call-init
+loop-call-init g c = (
+  refl,
   c.requires.room,
   c.args.answers.now.ok.0 ∙ ap length c.requires.none,
-  λ h given before taken held. answered_none g.E.Engine c.args.part h given before c.args.self.now taken (vec_items c.args.answers.now) c.requires.none held,
+  λ h given before taken held. answered_none g.E.Engine h given before c.args.self.now taken (vec_items c.args.answers.now) c.requires.none held,
 )
 
-pub loop-i-preserved : goal.loop-i-preserved
-loop-i-preserved g c =
+pub loop-call-preserved : goal.loop-call-preserved
+loop-call-preserved g c =
     let m = g.E.Engine in
-    let i = c.loop-i.i in
+    let i = c.loop-call.call-index in
     let calls : List Call = c.args.calls.now in
-    let inv = c.loop-i.invariant in
+    let inv = c.loop-call.invariant in
     let said = c.answer.ensures in
     let pushed = c.push_reserved.ensures in (
-      said.count,
+      said.part ∙ inv.0,
       omega (arith, pushed.capacity, inv.1),
       omega (arith, pushed.len, inv.2),
       λ h given before taken held.
-          let part = c.args.part in
           let f = c.args.self.now in
           let t = c.answer.new.self in
-          let xs : List Answer = vec_items c.loop-i.answers in
+          let xs : List Answer = vec_items c.loop-call.answers in
           let so_far = inv.3 h given before taken held in
           let one = said.answered h given before (taken ++ accepted (take i calls) xs) so_far.holds in
-          subst (λ (ys : List Answer). Answered m part h given before f taken (take (i + 1) calls) ys t) (sym pushed.items)
-          (subst (λ (cs : List Call). Answered m part h given before f taken cs (xs ++ (c.answer.result ∷ [])) t)
-          (sym (take_more calls i past c.loop-i-test.true))
-          (answered_append m part h given before f c.loop-i.self t taken (take i calls) (get_or calls i past ∷ []) xs (c.answer.result ∷ []) so_far one)),
+          subst (λ (ys : List Answer). Answered m h given before f taken (take (i + 1) calls) ys t) (sym pushed.items)
+          (subst (λ (cs : List Call). Answered m h given before f taken cs (xs ++ (c.answer.result ∷ [])) t)
+          (sym (take_more calls i past c.loop-call-test.true))
+          (answered_append m h given before f c.loop-call.self t taken (take i calls) (get_or calls i past ∷ []) xs (c.answer.result ∷ []) so_far one inv.0)),
     )
 
 pub returns : goal.returns
 returns g c =
     let m = g.E.Engine in
-    let inv = c.loop-i.invariant in
+    let inv = c.loop-call.invariant in
     let calls : List Call = c.args.calls.now in
     record {
-      count = inv.0;
+      part = inv.0;
       answered = λ h given before taken held.
-          subst (λ (cs : List Call). Answered m c.args.part h given before c.args.self.now taken cs (vec_items c.loop-i.answers) c.loop-i.self)
-          (take_all c.loop-i.i calls (omega arith)) (inv.3 h given before taken held);
+          subst (λ (cs : List Call). Answered m h given before c.args.self.now taken cs (vec_items c.loop-call.answers) c.loop-call.self)
+          (take_all c.loop-call.call-index calls (omega arith)) (inv.3 h given before taken held);
     }

@@ -1,33 +1,38 @@
-use Rattle.std.proofs.Common.{◌≡◌, List, take, sym, refl, ap, subst, arith}
+use Rattle.std.proofs.Common.{◌≡◌, List, ◌<◌, length, sym, refl, ◌∙◌, subst, arith}
+use Rattle.std.proofs.lemmas.Bool.{eqb-true, eqb-false}
+use Rattle.std.proofs.lemmas.List.{nil_from_length}
 use Rattle.field.specs.declared.kinds.Block.{Block}
+use Rattle.message.proofs.Cutting.{blocks_none}
+use Rattle.job.proofs.Feeding.{row_none}
 use Rattle.engine.specs.Rows.{Hashed}
-use Rattle.engine.proofs.HashedRows.{hashed_none, hashed_one}
-use Rattle.job.proofs.Waiting.{last_block, no_block}
+use Rattle.job.specs.Jobs.{pending}
+use Rattle.job.proofs.Cutting.{last_block}
 use Rattle.job.proofs.state.Filling.flush.Goals as goal
 
-pub returns-then-self-gt0 : goal.returns-then-self-gt0
-returns-then-self-gt0 g c =
+pub returns-then-not-is_empty : goal.returns-then-not-is_empty
+returns-then-not-is_empty g c =
     let m = g.E.Engine in
     let f = c.args.self.now in
-    let e = c.absorb.new.self in
-    let said = c.absorb.ensures in
+    let e = c.absorb_held.new.engine in
+    let other = eqb-false _ _ (sym c.is_empty.ensures ∙ c.if-not-is_empty.true) in
+    let some : 0 < length (pending f) = omega (arith, other) in
     record {
       hashed =
-          subst (λ (ps : List Block). Hashed m f.engine ps e) (sym (last_block f.held f.fill f.room f.blank (omega arith)))
-          (hashed_one m f.engine e _ _ said.value said.subkey said.ready said.whole c.from_bytes.ensures.value);
-      left = refl;
+          subst (λ (ps : List Block). Hashed m f.engine ps e) (sym (last_block (pending f) some (omega (arith, f.room))))
+          c.absorb_held.ensures.hashed;
+      left = c.absorb_held.ensures.left;
       count = refl;
+      part = refl;
     }
 
-pub returns-else-self-gt0 : goal.returns-else-self-gt0
-returns-else-self-gt0 g c =
+pub returns-else-not-is_empty : goal.returns-else-not-is_empty
+returns-else-not-is_empty g c =
     let m = g.E.Engine in
     let f = c.args.self.now in
-    let none : f.fill ≡ 0 = omega arith in
+    let none : length (pending f) ≡ 0 = eqb-true _ _ (sym c.is_empty.ensures ∙ c.if-not-is_empty.false) in
     record {
-      hashed =
-          subst (λ (ps : List Block). Hashed m f.engine ps f.engine) (sym (no_block f.held f.fill f.room f.blank none))
-          (hashed_none m f.engine);
-      left = ap (λ n. take n f.held) none;
+      hashed = row_none m f.engine _ (blocks_none (pending f) none);
+      left = nil_from_length _ none;
       count = refl;
+      part = refl;
     }

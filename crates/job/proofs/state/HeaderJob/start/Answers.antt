@@ -12,7 +12,7 @@ returns g c =
         subkey = said.subkey;
         ready = said.ready;
         count = refl;
-        left = refl;
+        left = c.new.ensures;
         value = said.value ∙ c.zero.ensures;
         bytes = λ k. omega arith;
       };
