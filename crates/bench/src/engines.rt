@@ -34,7 +34,7 @@ fn measure<E: Engine>(
     time(rt, count, Block::zero(), |_| hash(engine, blocks))
 }
 
-// A polynomial that the key annihilates.
+// A polynomial that the key annihilates. A function here, since the library keeps no scratch of its own.
 pub(crate) fn accepted() -> anyhow::Result<Accepted<Block>> {
     let mut scratch = [Block::zero(); 128];
     Accepted::make(key(), &mut scratch).map_err(|_| anyhow!("no polynomial"))

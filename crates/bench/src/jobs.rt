@@ -4,6 +4,7 @@ use crate::timing::{Timed, time};
 use engine::{Division, Engine, Step};
 use field::{Block, Element};
 use job::{BodyJob, Closed, HeaderJob};
+use message::block_of_byte_counts;
 
 const BLOCKS: u32 = 1536;
 
@@ -26,7 +27,7 @@ fn plain<E: Engine>(mut engine: E, body: &[u8]) -> Closed<E> {
     for bytes in blocks {
         engine.absorb(Block::from_bytes(*bytes));
     }
-    engine.absorb(Block::new((body.len() as u128).wrapping_mul(8)));
+    engine.absorb(block_of_byte_counts(0, body.len() as u64));
     let hash = engine.value();
     Closed {
         engine,

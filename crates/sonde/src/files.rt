@@ -4,6 +4,7 @@ use crate::stop::{Argument, Stop};
 use crate::words::{Hex, exactly};
 use message::Message;
 use sealed::{Reader, Record, Sealed, check_file, read_parts, write_file};
+use std::iter;
 
 // From this many bytes on, a command says on standard error what it is at.
 const SLOW: usize = 1 << 20;
@@ -91,12 +92,10 @@ fn print_record(rt: &HostRuntime, place: u32, record: Record) -> Result<(), Stop
 // A line for each record.
 fn print_records(rt: &HostRuntime, file: &[u8]) -> Result<(), Stop> {
     let mut reader = Reader::new(file);
-    // Counted, and no `while let`: the count is the block's place in print. No file has more than 65,536 blocks.
-    for place in 0..65_537u32 {
-        let Some(item) = reader.next()? else {
-            break;
-        };
-        print_record(rt, place, item.record)?;
+    let items = iter::from_fn(|| reader.next().transpose());
+    // No file has more than 65,536 blocks, and the range shows that the walk ends.
+    for (place, item) in (0..65_537u32).zip(items) {
+        print_record(rt, place, item?.record)?;
     }
     Ok(())
 }

@@ -3,6 +3,7 @@ use crate::stop::{Argument, Stop};
 use engine::Step;
 use field::Block;
 use message::Message;
+use sealed::Parts;
 
 // A subkey and a pad, which are always given together.
 #[derive(Clone, Copy)]
@@ -44,6 +45,11 @@ impl Files {
             header: &self.header,
             body: &self.body,
         }
+    }
+
+    // Whether the parts of a sealed file are these.
+    pub(crate) fn are(&self, parts: &Parts) -> bool {
+        parts.header == self.header && parts.body == self.body
     }
 }
 

@@ -2,14 +2,15 @@
 use crate::stop::{Argument, Stop};
 use crate::words::exactly;
 use field::{Block, Element};
-use polynomial::{Accepted, Binary, Trial, try_polynomial};
+use polynomial::{Binary, Trial, make_polynomial, try_polynomial};
 
-// The maker's polynomial, as an accepted one.
-pub(crate) fn accepted(subkey: Block) -> Result<Accepted<Block>, Stop> {
+// The maker's polynomial. A function here and below, since the library keeps no scratch of its own.
+pub(crate) fn make_block(subkey: Block) -> Result<Block, Stop> {
     let mut scratch = [Block::zero(); 128];
-    Ok(Accepted::make(subkey, &mut scratch)?)
+    Ok(make_polynomial(subkey, &mut scratch)?)
 }
 
+// The trial of a proposal.
 pub(crate) fn try_block(subkey: Block, proposal: Block) -> Result<Trial<Block>, Stop> {
     let mut scratch = [Block::zero(); 128];
     Ok(try_polynomial(subkey, proposal, &mut scratch)?)
@@ -17,7 +18,7 @@ pub(crate) fn try_block(subkey: Block, proposal: Block) -> Result<Trial<Block>, 
 
 pub(crate) fn print_maker(rt: &HostRuntime, words: &[String]) -> Result<(), Stop> {
     let [subkey] = exactly::<1>(words)?;
-    let made = accepted(Argument::Subkey.parse_block(subkey)?)?.coefficients();
+    let made = make_block(Argument::Subkey.parse_block(subkey)?)?;
     println!(rt; "polynomial {made}")?;
     println!(rt; "weight {}", made.weight())?;
     Ok(())

@@ -1,13 +1,16 @@
 // The command `preflight`: the list that is gone down before a balloon is let go.
+ghost use Rattle.std.specs.Prelude.{◌-◌};
+ghost use Rattle.std.specs.Iterator.{at_most};
+
 use crate::files::sealed_file;
 use crate::flight::Flight;
-use crate::polynomials::{accepted, try_block};
+use crate::polynomials::{make_block, try_block};
 use crate::stop::{Argument, Check, Stop};
 use engine::{Division, Engine, Pair, Step};
 use field::Block;
 use job::{BodyJob, Closed, HeaderJob};
-use message::{Digest, Message, Part, block_of, block_of_byte_counts};
-use polynomial::{Accepted, Binary};
+use message::{Digest, Found, Message, Part, block_of, block_of_byte_counts};
+use polynomial::Accepted;
 use refusal::Refusal;
 use sealed::{check_file, read_parts};
 use std::ops::Range;
@@ -21,19 +24,16 @@ const AROUND: usize = 17;
 // A body of so many bytes ends with a half-filled block past the degree of the polynomial.
 const PAST_DEGREE: usize = 129 * 16 + 7;
 
-// 1: the polynomial is the given one, else the maker's.
+// 1: the polynomial is tried, the given one, else the maker's.
 fn try_flight(rt: &HostRuntime, flight: &Flight) -> Result<Accepted<Block>, Stop> {
     let subkey = flight.key.subkey;
-    let polynomial = match flight.proposal {
-        Some(proposal) => try_block(subkey, proposal)?.polynomial,
-        None => accepted(subkey)?,
+    let proposal = match flight.proposal {
+        Some(given) => given,
+        None => make_block(subkey)?,
     };
-    let coefficients = polynomial.coefficients();
-    println!(rt;
-        "1 polynomial {coefficients}: ok, weight {}",
-        coefficients.weight()
-    )?;
-    Ok(polynomial)
+    let trial = try_block(subkey, proposal)?;
+    println!(rt; "1 polynomial {proposal}: ok, weight {}", trial.weight)?;
+    Ok(trial.polynomial)
 }
 
 // A job with the body cut in two, and a switch asked for between.
@@ -53,10 +53,36 @@ fn cut_job<E: Engine + Drop>(
     Ok(job.close(pad))
 }
 
-// The hash of the blocks that the finder finds, up to the first that it does not, and the length block.
+// The blocks that the finder finds, up to the first that it does not.
+#[derive(Drop)]
+struct Blocks<'a> {
+    message: Message<'a>,
+    numbers: Range<usize>,
+}
+
+impl<'a> Blocks<'a> {
+    fn of(message: Message<'a>) -> Blocks<'a> {
+        Blocks {
+            message,
+            numbers: 0..usize::MAX,
+        }
+    }
+}
+
+impl<'a> Iterator for Blocks<'a> {
+    type Item = Found<'a>;
+
+    ghost remaining = { λ blocks. at_most (blocks.numbers.end - blocks.numbers.start) };
+
+    fn next(&mut self) -> Option<Found<'a>> {
+        self.message.find_block(self.numbers.next()?)
+    }
+}
+
+// The hash of the blocks that the finder finds, and the length block.
 fn found_hash(subkey: Block, message: Message) -> Block {
     let mut engine = Step::new(subkey);
-    for found in (0..usize::MAX).map_while(|n| message.find_block(n)) {
+    for found in Blocks::of(message) {
         engine.absorb(block_of(found.bytes));
     }
     let Message { header, body } = message;
@@ -91,18 +117,21 @@ fn try_cuts(flight: &Flight, tag: Block, cuts: Range<usize>) -> Result<usize, St
     Ok(end.saturating_sub(cuts.start))
 }
 
-// Whether the blocks that are found in a part of so many bytes begin where the one before ended, and reach its end.
-fn blocks_join(message: Message, part: Part, length: usize) -> bool {
-    let mut end = 0usize;
-    for found in (0..usize::MAX).map_while(|n| message.find_block(n)) {
-        if found.part == part {
-            if found.offset != end {
-                return false;
-            }
-            end = end.saturating_add(found.bytes.len());
+// Whether the blocks that are found begin where the one before in the same part ended, and reach the ends of both parts.
+fn blocks_join(message: Message) -> bool {
+    let mut header = 0usize;
+    let mut body = 0usize;
+    for found in Blocks::of(message) {
+        let end = match found.part {
+            Part::Header => &mut header,
+            Part::Body => &mut body,
+        };
+        if found.offset != *end {
+            return false;
         }
+        *end = end.saturating_add(found.bytes.len());
     }
-    end == length
+    header == message.header.len() && body == message.body.len()
 }
 
 // The cuts at a place and near it.
@@ -122,8 +151,7 @@ fn cut_flight(rt: &HostRuntime, flight: &Flight, tag: Block) -> Result<(), Stop>
         Check::CutPastEnd.holds(*at <= length)?;
         cuts = cuts.saturating_add(try_cuts(flight, tag, *at..at.saturating_add(1))?);
     }
-    Check::Finder.holds(blocks_join(message, Part::Header, message.header.len()))?;
-    Check::Finder.holds(blocks_join(message, Part::Body, length))?;
+    Check::Finder.holds(blocks_join(message))?;
     println!(rt; "3 edges of the segments: ok, {cuts} cuts, each block in one segment")?;
     Ok(())
 }
@@ -164,8 +192,7 @@ fn seal_flight(rt: &HostRuntime, flight: &Flight, out: &str) -> Result<(), Stop>
     let file = Argument::Out.read_bytes(rt, out)?;
     check_file(key.step(), key.pad, &file).answer?;
     let parts = read_parts(rt.alloc(), &file)?;
-    Check::ReadBack.holds(parts.header == flight.files.header)?;
-    Check::ReadBack.holds(parts.body == flight.files.body)?;
+    Check::ReadBack.holds(flight.files.are(&parts))?;
     println!(rt; "5 seal read back: ok, {blocks} blocks in {out}")?;
     Ok(())
 }

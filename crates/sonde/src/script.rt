@@ -163,9 +163,8 @@ impl Script {
             body: Vec::new(rt.alloc()),
             stage: Stage::Header,
         };
-        for (at, text) in text.lines().enumerate() {
-            // Lines are counted from 1.
-            let line = at.saturating_add(1);
+        // Lines are counted from 1.
+        for (line, text) in (1usize..).zip(text.lines()) {
             script
                 .take_text(rt, line, text)
                 .map_err(|fault| Stop::BadLine { line, fault })?;

@@ -78,6 +78,7 @@ pub(crate) fn print_long(rt: &HostRuntime, subkey: Block) -> Result<(), Fault> {
     let blocks: Vec<Block> = (0..300u32)
         .map(|k| Block::new(u128::from(k)))
         .collect(rt.alloc())?;
+    // The number is what is tried, no index.
     for every in 126..130usize {
         let hashes = Hashes::of(subkey, &blocks, every)?;
         let verdict = verdict(hashes.all(hashes.step));

@@ -12,58 +12,54 @@ use std::alloc::{AllocError, Global};
 
 const CUTS: [usize; 5] = [1, 7, 15, 16, 17];
 
-// A part in pieces, and a switch after each.
-fn calls_of<'a>(heap: Global, part: &'a [u8], cut: usize) -> Result<Vec<Call<'a>>, AllocError> {
-    part.chunks(cut.max(1))
-        .flat_map(|piece| [Call::Feed(piece), Call::Switch])
-        .collect(heap)
-}
-
 // Both parts at one lifetime.
 fn message_of<'a>(header: &'a [u8], body: &'a [u8]) -> Message<'a> {
     Message { header, body }
 }
 
-// The closed job of a header and a body that are cut.
-fn closed<E: Engine + Drop>(
+// How a message is fed, and under which pad its job is closed.
+#[derive(Clone, Copy)]
+struct Feeding {
     heap: Global,
-    engine: E,
-    pad: Block,
-    message: Message,
+    // How many bytes a piece has.
     cut: usize,
-) -> Result<Closed<E>, Fault> {
-    let header = calls_of(heap, message.header, cut)?;
-    let body = calls_of(heap, message.body, cut)?;
-    let done = replay(heap, engine, &header, &body, pad).map_err(|_| Fault::NoMemory)?;
-    Ok(done.closed)
+    pad: Block,
+}
+
+impl Feeding {
+    // A part in pieces, and a switch after each.
+    fn calls<'a>(self, part: &'a [u8]) -> Result<Vec<Call<'a>>, AllocError> {
+        part.chunks(self.cut.max(1))
+            .flat_map(|piece| [Call::Feed(piece), Call::Switch])
+            .collect(self.heap)
+    }
+
+    // The closed job of a message.
+    fn close<E: Engine + Drop>(self, engine: E, message: Message) -> Result<Closed<E>, Fault> {
+        let header = self.calls(message.header)?;
+        let body = self.calls(message.body)?;
+        let done = replay(self.heap, engine, &header, &body, self.pad).map_err(
+            |_| Fault::NoMemory,
+        )?;
+        Ok(done.closed)
+    }
 }
 
 impl Case {
-    // The case's tag by a job over this engine.
-    fn tag_cut<E: Engine + Drop>(
-        &self,
-        heap: Global,
-        engine: E,
-        cut: usize,
-    ) -> Result<Block, Fault> {
-        Ok(closed(heap, engine, self.pad, self.message(), cut)?.tag)
-    }
-
-    // Whether the tag is the published one at this cut, over both engines.
+    // Whether the tag is the published one, over both engines.
     fn tags_agree(
         &self,
-        heap: Global,
+        feeding: Feeding,
         polynomial: Accepted<Block>,
-        cut: usize,
         tag: Block,
     ) -> Result<bool, Fault> {
         let step = || Step::new(self.subkey);
         let division = || Division::new(polynomial);
         let pair = Pair::new(step(), division());
         let pairs = Pair::new(Pair::new(division(), step()), Pair::new(step(), division()));
-        let by_pair = self.tag_cut(heap, pair, cut)?;
-        let by_pairs = self.tag_cut(heap, pairs, cut)?;
-        Ok(by_pair == tag && by_pairs == tag)
+        let by_pair = feeding.close(pair, self.message())?;
+        let by_pairs = feeding.close(pairs, self.message())?;
+        Ok(by_pair.tag == tag && by_pairs.tag == tag)
     }
 
     // Whether the hashes of the body and of its complement differ by the hash of what they differ by: bytes of ones in the
@@ -74,8 +70,13 @@ impl Case {
         let ones = vec![in heap; 255u8; self.body.len()]?;
         let step = || Step::new(self.subkey);
         let complement = message_of(&self.header, &other);
-        let first = closed(heap, step(), Block::zero(), self.message(), 16)?;
-        let second = closed(heap, step(), Block::zero(), complement, 5)?;
+        let feeding = |cut| Feeding {
+            heap,
+            cut,
+            pad: Block::zero(),
+        };
+        let first = feeding(16).close(step(), self.message())?;
+        let second = feeding(5).close(step(), complement)?;
         let blocks = blocks_of(heap, message_of(&zeros, &ones), Block::zero())?;
         Ok(hash_difference(&first, &second) == hash(&mut step(), &blocks, 1))
     }
@@ -87,7 +88,9 @@ pub(crate) fn print_jobs(rt: &HostRuntime, case: &Case, tag: Block) -> Result<()
     let polynomial = accepted(case.subkey)?;
     let mut agree = case.difference_agrees(heap)?;
     for cut in CUTS {
-        agree = case.tags_agree(heap, polynomial, cut, tag)? && agree;
+        let pad = case.pad;
+        let feeding = Feeding { heap, cut, pad };
+        agree = case.tags_agree(feeding, polynomial, tag)? && agree;
     }
     let verdict = verdict(agree);
     println!(rt; "jobs {verdict}, cut every 1, 7, 15, 16 and 17 bytes")?;

@@ -60,7 +60,7 @@ pub(crate) fn print_trials(rt: &HostRuntime) -> Result<(), Fault> {
     Ok(())
 }
 
-// The maker's polynomial for a subkey, as an accepted one.
+// The maker's polynomial for a subkey, as an accepted one. A function here, since the library keeps no scratch of its own.
 pub(crate) fn accepted(subkey: Block) -> Result<Accepted<Block>, Fault> {
     let mut scratch = [Block::zero(); 128];
     Ok(Accepted::make(subkey, &mut scratch)?)
