@@ -9,13 +9,13 @@ use crate::faults::{check_block, is_ended};
 use crate::reader::Reader;
 use crate::record::{Item, Record};
 use crate::shape::Shape;
-use format::Kind;
+use format::{BLOCK_BYTES, Kind, LARGEST_FILE};
 use refusal::Refusal;
 
 pub(crate) fn size_good(file: &[u8]) -> bool
     ensures { result ≡ is_size_good file.now }
 {
-    file.len() % 512 == 0 && 512 <= file.len() && file.len() <= 33_554_432
+    file.len() % BLOCK_BYTES == 0 && BLOCK_BYTES <= file.len() && file.len() <= LARGEST_FILE
 }
 
 fn record_of<'a>(kind: Kind, data: &'a [u8]) -> Record<'a>
@@ -29,13 +29,13 @@ fn record_of<'a>(kind: Kind, data: &'a [u8]) -> Record<'a>
     }
 }
 
-// The record of a block of this shape, and the bytes after the block.
+// The record of a block of this shape, and the bytes after the block. A bare pair, as what a parser answers is.
 fn parse<'a>(left: &'a [u8], shape: Shape) -> (Record<'a>, &'a [u8])
     requires long { 512 ≤ length left.now }
     requires shape { shown shape ≡ previous (take 512 left.now) }
     ensures { Parsed left.now result.0 result.1.now }
 {
-    let (block, rest) = left.split_at(512);
+    let (block, rest) = left.split_at(BLOCK_BYTES);
     (record_of(shape.kind, &block[6..6 + shape.used]), rest)
 }
 
@@ -60,8 +60,8 @@ impl<'a> Reader<'a> {
         if !size_good(file) {
             return Err(Refusal::FileSize);
         }
-        let left = &file[512 * place..];
-        let Some(block) = left.first_chunk::<512>() else {
+        let left = &file[BLOCK_BYTES * place..];
+        let Some(block) = left.first_chunk::<BLOCK_BYTES>() else {
             if is_ended(self.last) {
                 return Ok(None);
             }
