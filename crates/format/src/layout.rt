@@ -4,14 +4,17 @@ ghost use Rattle.format.specs.Layout.{blocks_for};
 
 pub const BLOCK_BYTES: usize = 512;
 
+// Where the data and the check stand in a block.
+pub const DATA_AT: usize = 6;
+
+pub const CHECK_AT: usize = 508;
+
 // The most data of one block.
 pub const DATA_BYTES: usize = 502;
 
-// Where the check stands in a block.
-pub const CHECK_AT: usize = 508;
-
 pub const MOST_BLOCKS: usize = 65_536;
 
+// In bytes.
 pub const LARGEST_FILE: usize = 33_554_432;
 
 // How many blocks a file of a header and a body of these lengths has.

@@ -8,5 +8,7 @@ mod lengths;
 
 pub use check::block_check;
 pub use kind::{Kind, NoKind};
-pub use layout::{BLOCK_BYTES, CHECK_AT, DATA_BYTES, LARGEST_FILE, MOST_BLOCKS, blocks_for};
+pub use layout::{
+    BLOCK_BYTES, CHECK_AT, DATA_AT, DATA_BYTES, LARGEST_FILE, MOST_BLOCKS, blocks_for,
+};
 pub use lengths::Lengths;

@@ -10,7 +10,7 @@ use crate::hashing::hash_file;
 use crate::scanning::first_pass;
 use engine::Engine;
 use field::Block;
-use format::{BLOCK_BYTES, Lengths};
+use format::{BLOCK_BYTES, DATA_AT, Lengths};
 use job::Closed;
 use message::block_of;
 use refusal::Refusal;
@@ -21,7 +21,7 @@ fn stored_tag(file: &[u8]) -> Block
     ensures { result.bits ≡ numeral 256 (take 16 (drop 6 (drop (length file.now - 512) file.now))) }
 {
     let end = &file[file.len() - BLOCK_BYTES..];
-    block_of(&end[6..])
+    block_of(&end[DATA_AT..])
 }
 
 fn compare_tags(stored: Block, tag: Block, lengths: Lengths) -> Result<Lengths, Refusal>

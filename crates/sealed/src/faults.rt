@@ -7,7 +7,7 @@ ghost use Rattle.sealed.specs.Shapes.{previous_of, shown};
 
 use crate::prefix::{Prefix, read_prefix};
 use crate::shape::Shape;
-use format::{BLOCK_BYTES, CHECK_AT, DATA_BYTES, Kind, block_check};
+use format::{BLOCK_BYTES, CHECK_AT, DATA_AT, DATA_BYTES, Kind, block_check};
 use refusal::Refusal;
 
 fn all_zero(bytes: &[u8]) -> bool
@@ -27,7 +27,7 @@ fn used_fits(kind: Kind, used: usize) -> bool
 }
 
 impl Shape {
-    fn is_end(self) -> bool
+    pub(crate) fn is_end(self) -> bool
         ensures { result ≡ nat_eq (number_of self.kind) 3 }
     {
         self.kind == Kind::End
@@ -52,7 +52,10 @@ fn shape_of(block: &[u8; BLOCK_BYTES], prefix: Prefix) -> Option<Shape>
         return None;
     };
     let used = prefix.used;
-    if prefix.reserve != 0 || !used_fits(kind, used) || !all_zero(&block[6 + used..CHECK_AT]) {
+    if prefix.reserve != 0
+        || !used_fits(kind, used)
+        || !all_zero(&block[DATA_AT + used..CHECK_AT])
+    {
         return None;
     }
     Some(Shape { kind, used })
@@ -88,11 +91,4 @@ pub(crate) fn check_block(
         return Err(Refusal::WrongOrder { block: place });
     }
     Ok(shape)
-}
-
-// Whether the last block read was an end block.
-pub(crate) fn is_ended(last: Option<Shape>) -> bool
-    ensures { result ≡ nat_eq (previous_of last).kind 3 }
-{
-    last.is_some_and(Shape::is_end)
 }

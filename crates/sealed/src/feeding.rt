@@ -8,7 +8,7 @@ ghost use Rattle.sealed.specs.Feeding.{BodyFed, HeaderFed};
 
 use crate::prefix::read_prefix;
 use engine::Engine;
-use format::{BLOCK_BYTES, Kind};
+use format::{BLOCK_BYTES, DATA_AT, Kind};
 use job::{BodyJob, HeaderJob};
 
 // A job in the state of one part, of which it takes piece after piece.
@@ -56,10 +56,10 @@ fn data_for<'a>(block: &'a [u8; BLOCK_BYTES], kind: Kind) -> &'a [u8]
     let prefix = read_prefix(block);
     // By number, since a block's kind may be any byte.
     if prefix.kind != kind.number() {
-        return &block[6..6];
+        return &block[..0];
     }
-    let used = prefix.used.min(BLOCK_BYTES - 6);
-    &block[6..6 + used]
+    let used = prefix.used.min(BLOCK_BYTES - DATA_AT);
+    &block[DATA_AT..DATA_AT + used]
 }
 
 // The data of all blocks of this kind.

@@ -3,7 +3,7 @@ ghost use Rattle.std.specs.Prelude.{◌≡◌, ◌+◌, ◌*◌, ◌/◌, ◌<�
 ghost use Rattle.format.specs.Layout.{block_bytes, content, laid, pieces};
 ghost use Rattle.format.specs.Kinds.{number_of};
 
-use format::{BLOCK_BYTES, CHECK_AT, DATA_BYTES, Kind, block_check};
+use format::{BLOCK_BYTES, CHECK_AT, DATA_AT, DATA_BYTES, Kind, block_check};
 
 // One block: prefix, data, zeros up to the check, and the check.
 // A slice, not `&mut [u8; 512]`: tried, and what `first_chunk_mut` hands back to the output did not prove in `put_block`.
@@ -15,9 +15,9 @@ fn fill_block(block: &mut [u8], number: u32, kind: Kind, data: &[u8])
 {
     let [n1, n0] = (number as u16).to_be_bytes();
     let [u1, u0] = (data.len() as u16).to_be_bytes();
-    let end = 6 + data.len();
-    block[0..6].copy_from_slice(&[n1, n0, kind.number(), 0, u1, u0]);
-    block[6..end].copy_from_slice(data);
+    let end = DATA_AT + data.len();
+    block[0..DATA_AT].copy_from_slice(&[n1, n0, kind.number(), 0, u1, u0]);
+    block[DATA_AT..end].copy_from_slice(data);
     block[end..CHECK_AT].fill(0);
     let check = block_check(&block[0..CHECK_AT]).to_be_bytes();
     block[CHECK_AT..BLOCK_BYTES].copy_from_slice(&check);

@@ -5,11 +5,11 @@ ghost use Rattle.format.specs.Kinds.{number_of};
 ghost use Rattle.sealed.specs.Reading.{Parsed, Read, data_held, kind_of};
 ghost use Rattle.sealed.specs.Shapes.{shown};
 
-use crate::faults::{check_block, is_ended};
+use crate::faults::check_block;
 use crate::reader::Reader;
 use crate::record::{Item, Record};
 use crate::shape::Shape;
-use format::{BLOCK_BYTES, Kind, LARGEST_FILE};
+use format::{BLOCK_BYTES, DATA_AT, Kind, LARGEST_FILE};
 use refusal::Refusal;
 
 pub(crate) fn size_good(file: &[u8]) -> bool
@@ -29,14 +29,16 @@ fn record_of<'a>(kind: Kind, data: &'a [u8]) -> Record<'a>
     }
 }
 
-// The record of a block of this shape, and the bytes after the block. A bare pair, as what a parser answers is.
+// The record of a block of this shape, and the bytes after the block.
+// A bare pair, as a parser answers: what was read, and what is left.
 fn parse<'a>(left: &'a [u8], shape: Shape) -> (Record<'a>, &'a [u8])
     requires long { 512 ≤ length left.now }
     requires shape { shown shape ≡ previous (take 512 left.now) }
     ensures { Parsed left.now result.0 result.1.now }
 {
     let (block, rest) = left.split_at(BLOCK_BYTES);
-    (record_of(shape.kind, &block[6..6 + shape.used]), rest)
+    let bytes = &block[DATA_AT..DATA_AT + shape.used];
+    (record_of(shape.kind, bytes), rest)
 }
 
 impl<'a> Reader<'a> {
@@ -62,7 +64,7 @@ impl<'a> Reader<'a> {
         }
         let left = &file[BLOCK_BYTES * place..];
         let Some(block) = left.first_chunk::<BLOCK_BYTES>() else {
-            if is_ended(self.last) {
+            if self.last.is_some_and(Shape::is_end) {
                 return Ok(None);
             }
             return Err(Refusal::NoEnd {

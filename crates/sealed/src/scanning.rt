@@ -3,7 +3,7 @@ ghost use Rattle.std.specs.Prelude.{◌≡◌, ◌≤◌, true};
 ghost use Rattle.format.specs.Faults.{is_size_good};
 ghost use Rattle.sealed.specs.Checking.{Scanned, first_pass_answer, scan_after};
 
-use crate::faults::{check_block, is_ended};
+use crate::faults::check_block;
 use crate::reading::size_good;
 use crate::shape::Shape;
 use format::{BLOCK_BYTES, Kind, Lengths};
@@ -60,7 +60,7 @@ pub(crate) fn first_pass(file: &[u8]) -> Result<Lengths, Refusal>
         return Err(Refusal::FileSize);
     }
     let scan = scan_blocks(file)?;
-    if !is_ended(scan.last) {
+    if !scan.last.is_some_and(Shape::is_end) {
         return Err(Refusal::NoEnd {
             blocks: (file.len() / BLOCK_BYTES) as u32,
         });
