@@ -3,6 +3,7 @@ use crate::engines::key;
 use crate::timing::{time, time_tries};
 use engine::Step;
 use field::{Block, Element};
+use format::BLOCK_BYTES;
 use message::Message;
 use sealed::{check_file, write_file};
 use tag::tag_message;
@@ -10,7 +11,7 @@ use tag::tag_message;
 const BODY: usize = 1 << 20;
 
 // The file of that body: 2,089 body blocks and the end.
-const FILE: usize = 512 * 2_090;
+const FILE: usize = BLOCK_BYTES * 2_090;
 
 fn headless(body: &[u8]) -> Message<'_> {
     Message { header: &[], body }

@@ -1,4 +1,5 @@
 pub mod Zeros
+pub mod Pairs
 pub mod BlockFields
 pub mod Pieces
 pub mod Sequences

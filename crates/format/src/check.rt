@@ -10,9 +10,10 @@ pub fn block_check(bytes: &[u8]) -> u32
 {
     let key = Word::new(16_807);
     let mut sum = Word::zero();
-    for pair in bytes.chunks_exact(2) {
-        let number = Word::new(pair[0] as u32 * 256 + pair[1] as u32);
-        sum = sum.plus(number).times(key);
+    let (pairs, _odd) = bytes.as_chunks::<2>();
+    for [high, low] in pairs {
+        let number = u16::from_be_bytes([*high, *low]);
+        sum = sum.plus(Word::new(u32::from(number))).times(key);
     }
     sum.value()
 }

@@ -3,8 +3,12 @@
 
 mod check;
 mod kind;
+mod layout;
 mod lengths;
 
 pub use check::block_check;
 pub use kind::{Kind, NoKind};
+pub use layout::{
+    BLOCK_BYTES, CHECK_AT, DATA_AT, DATA_BYTES, LARGEST_FILE, MOST_BLOCKS, blocks_for,
+};
 pub use lengths::Lengths;

@@ -133,12 +133,12 @@ pub data_at_end : (kind k : ℕ) (file : List ℕ) → k ≡ length file / 512 �
 unfolding blocks_of
 data_at_end kind k file end = ap (λ (j : ℕ). data_of kind (rows_of j file)) end
 
--- a slice up to a length that may lie past it
-pub take_min : (n k : ℕ) (xs : List ℕ) → k ≡ min n (length xs) → take (k - 0) xs ≡ take n xs
-take_min n k xs least =
-    elim (dec_le n (length xs)) [
-      | yes h ↦ let e : k - 0 ≡ n = omega (arith, least) in ap (λ (j : ℕ). take j xs) e
-      | no h ↦ take_all (k - 0) xs (omega (arith, least)) ∙ sym (take_all n xs (omega arith))
+-- the data of a block, up to a length that may lie past the block
+pub take_min : (n k : ℕ) (b : List ℕ) → k ≡ min n 506 → length b ≡ 512 → take (6 + k - 6) (drop 6 b) ≡ take n (drop 6 b)
+take_min n k b least whole =
+    elim (dec_le n 506) [
+      | yes h ↦ let e : 6 + k - 6 ≡ n = omega (arith, least) in ap (λ (j : ℕ). take j (drop 6 b)) e
+      | no h ↦ take_all (6 + k - 6) (drop 6 b) (omega (arith, least, length-drop 6 b)) ∙ sym (take_all n (drop 6 b) (omega (arith, length-drop 6 b)))
     ]
 
 -- ---- scanning

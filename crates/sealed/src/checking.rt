@@ -1,5 +1,5 @@
 // A whole file checked under an engine's subkey.
-ghost use Rattle.std.specs.Prelude.{◌≡◌, take, drop, if◌then◌else◌, Ok, Err, nat_eq};
+ghost use Rattle.std.specs.Prelude.{◌≡◌, ◌-◌, ◌≤◌, length, take, drop, if◌then◌else◌, Ok, Err, nat_eq};
 ghost use Rattle.field.specs.Digits.{numeral};
 ghost use Rattle.format.specs.Verdict.{Exact, verdict};
 ghost use Rattle.refusal.specs.declared.Refusal.TheVariants.{TagDiffers};
@@ -10,17 +10,18 @@ use crate::hashing::hash_file;
 use crate::scanning::first_pass;
 use engine::Engine;
 use field::Block;
-use format::Lengths;
+use format::{BLOCK_BYTES, DATA_AT, Lengths};
 use job::Closed;
+use message::block_of;
 use refusal::Refusal;
 
-// The tag that stands in an end block.
-fn stored_tag(block: &[u8; 512]) -> Block
-    ensures { result.bits ≡ numeral 256 (take 16 (drop 6 block.now)) }
+// The tag that stands in a file's last block.
+fn stored_tag(file: &[u8]) -> Block
+    requires { 512 ≤ length file.now }
+    ensures { result.bits ≡ numeral 256 (take 16 (drop 6 (drop (length file.now - 512) file.now))) }
 {
-    let mut bytes = [0; 16];
-    bytes.copy_from_slice(&block[6..22]);
-    Block::from_bytes(bytes)
+    let end = &file[file.len() - BLOCK_BYTES..];
+    block_of(&end[DATA_AT..])
 }
 
 fn compare_tags(stored: Block, tag: Block, lengths: Lengths) -> Result<Lengths, Refusal>
@@ -49,9 +50,6 @@ pub fn check_file<E: Engine>(engine: E, pad: Block, file: &[u8]) -> Checked<E>
             };
         }
     };
-    let Some(end) = file.last_chunk::<512>() else {
-        unreachable!()
-    };
     let Closed {
         engine,
         hash: _,
@@ -59,6 +57,6 @@ pub fn check_file<E: Engine>(engine: E, pad: Block, file: &[u8]) -> Checked<E>
     } = hash_file(engine, pad, file);
     Handed {
         engine,
-        answer: compare_tags(stored_tag(end), tag, lengths),
+        answer: compare_tags(stored_tag(file), tag, lengths),
     }
 }

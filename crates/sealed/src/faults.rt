@@ -2,12 +2,12 @@
 ghost use Rattle.std.specs.Prelude.{◌≡◌, nat_eq};
 ghost use Rattle.format.specs.Faults.{is_all_zero, check_in, is_order_good, is_used_fit};
 ghost use Rattle.format.specs.Kinds.{number_of};
-ghost use Rattle.sealed.specs.Reading.{Checked, Formed};
-ghost use Rattle.sealed.specs.Shapes.{previous_of};
+ghost use Rattle.sealed.specs.Reading.{Checked, Formed, prefix_in};
+ghost use Rattle.sealed.specs.Shapes.{previous_of, shown};
 
-use crate::prefix::read_prefix;
+use crate::prefix::{Prefix, read_prefix};
 use crate::shape::Shape;
-use format::{Kind, block_check};
+use format::{BLOCK_BYTES, CHECK_AT, DATA_AT, DATA_BYTES, Kind, block_check};
 use refusal::Refusal;
 
 fn all_zero(bytes: &[u8]) -> bool
@@ -21,72 +21,74 @@ fn used_fits(kind: Kind, used: usize) -> bool
     ensures { result ≡ is_used_fit (number_of kind) used }
 {
     match kind {
-        Kind::Header | Kind::Body => 1 <= used && used <= 502,
+        Kind::Header | Kind::Body => 1 <= used && used <= DATA_BYTES,
         Kind::End => used == 16,
     }
 }
 
+impl Shape {
+    pub(crate) fn is_end(self) -> bool
+        ensures { result ≡ nat_eq (number_of self.kind) 3 }
+    {
+        self.kind == Kind::End
+    }
+
+    // Nothing stands after the end, no kind after a later one, and only a full block before one of its kind.
+    fn may_precede(self, kind: Kind) -> bool
+        ensures { result ≡ is_order_good (shown self) (number_of kind) }
+    {
+        self.kind != Kind::End
+            && self.kind <= kind
+            && (self.kind != kind || DATA_BYTES <= self.used)
+    }
+}
+
 // The shape of a block of good form, and none of another.
-fn shape_of(block: &[u8; 512]) -> Option<Shape>
+fn shape_of(block: &[u8; BLOCK_BYTES], prefix: Prefix) -> Option<Shape>
+    requires { prefix ≡ prefix_in block.now }
     ensures { Formed block.now result }
 {
-    let (prefix, _rest) = read_prefix(block);
     let Ok(kind) = Kind::try_from(prefix.kind) else {
         return None;
     };
     let used = prefix.used;
-    if prefix.reserve != 0 || !used_fits(kind, used) || !all_zero(&block[6 + used..508]) {
+    if prefix.reserve != 0
+        || !used_fits(kind, used)
+        || !all_zero(&block[DATA_AT + used..CHECK_AT])
+    {
         return None;
     }
     Some(Shape { kind, used })
 }
 
-// Nothing stands after the end, no kind after a later one, and only a full block before one of its kind.
-fn order_good(before: Option<Shape>, kind: Kind) -> bool
-    ensures { result ≡ is_order_good (previous_of before) (number_of kind) }
-{
-    let Some(before) = before else {
-        return true;
-    };
-    before.kind != Kind::End && before.kind <= kind && (before.kind != kind || 502 <= before.used)
-}
-
 // The check that stands in the block's last four bytes.
-fn stored_check(block: &[u8; 512]) -> u32
+fn stored_check(block: &[u8; BLOCK_BYTES]) -> u32
     ensures { result ≡ check_in block.now }
 {
-    let mut bytes = [0; 4];
-    bytes.copy_from_slice(&block[508..]);
-    u32::from_be_bytes(bytes)
+    let [.., c3, c2, c1, c0] = block;
+    u32::from_be_bytes([*c3, *c2, *c1, *c0])
 }
 
 // The shape of the block at a place, or its first fault.
 pub(crate) fn check_block(
-    block: &[u8; 512],
+    block: &[u8; BLOCK_BYTES],
     place: u32,
     before: Option<Shape>,
 ) -> Result<Shape, Refusal>
     ensures { Checked place (previous_of before) block.now result }
 {
-    let (prefix, _rest) = read_prefix(block);
-    if stored_check(block) != block_check(&block[..508]) {
+    let prefix = read_prefix(block);
+    if stored_check(block) != block_check(&block[..CHECK_AT]) {
         return Err(Refusal::WrongCheck { block: place });
     }
     if prefix.number != place {
         return Err(Refusal::WrongNumber { block: place });
     }
-    let Some(shape) = shape_of(block) else {
+    let Some(shape) = shape_of(block, prefix) else {
         return Err(Refusal::WrongForm { block: place });
     };
-    if !order_good(before, shape.kind) {
+    if !before.is_none_or(|last| last.may_precede(shape.kind)) {
         return Err(Refusal::WrongOrder { block: place });
     }
     Ok(shape)
-}
-
-// Whether the last block read was an end block.
-pub(crate) fn is_ended(last: Option<Shape>) -> bool
-    ensures { result ≡ nat_eq (previous_of last).kind 3 }
-{
-    last.is_some_and(|shape| shape.kind == Kind::End)
 }

@@ -8,7 +8,7 @@ ghost use Rattle.sealed.specs.Feeding.{BodyFed, HeaderFed};
 
 use crate::prefix::read_prefix;
 use engine::Engine;
-use format::Kind;
+use format::{BLOCK_BYTES, DATA_AT, Kind};
 use job::{BodyJob, HeaderJob};
 
 // A job in the state of one part, of which it takes piece after piece.
@@ -50,15 +50,16 @@ impl<E: Engine> Takes for BodyJob<E> {
 }
 
 // The data of a block of this kind, and none of another.
-fn data_for<'a>(block: &'a [u8; 512], kind: Kind) -> &'a [u8]
+fn data_for<'a>(block: &'a [u8; BLOCK_BYTES], kind: Kind) -> &'a [u8]
     ensures { result.now ≡ data_of_kind (number_of kind) block.now }
 {
-    let (prefix, rest) = read_prefix(block);
+    let prefix = read_prefix(block);
+    // By number, since a block's kind may be any byte.
     if prefix.kind != kind.number() {
-        return &rest[0..0];
+        return &block[..0];
     }
-    let end = prefix.used.min(rest.len());
-    &rest[0..end]
+    let used = prefix.used.min(BLOCK_BYTES - DATA_AT);
+    &block[DATA_AT..DATA_AT + used]
 }
 
 // The data of all blocks of this kind.
@@ -66,7 +67,7 @@ pub(crate) fn feed_part<J: Takes>(job: &mut J, file: &[u8], kind: Kind)
     requires { length (data_of (number_of kind) (blocks_of file.now)) ≤ J.limit }
     ensures { J.fed job.old (data_of (number_of kind) (blocks_of file.now)) job.new }
 {
-    let (blocks, _rest) = file.as_chunks::<512>();
+    let (blocks, _rest) = file.as_chunks::<BLOCK_BYTES>();
     for block in blocks {
         job.take(data_for(block, kind));
     }

@@ -3,7 +3,7 @@ ghost use Rattle.std.specs.Prelude.{◌≡◌, ◌+◌, ◌*◌, ◌/◌, ◌<�
 ghost use Rattle.format.specs.Layout.{block_bytes, content, laid, pieces};
 ghost use Rattle.format.specs.Kinds.{number_of};
 
-use format::{Kind, block_check};
+use format::{BLOCK_BYTES, CHECK_AT, DATA_AT, DATA_BYTES, Kind, block_check};
 
 // One block: prefix, data, zeros up to the check, and the check.
 // A slice, not `&mut [u8; 512]`: tried, and what `first_chunk_mut` hands back to the output did not prove in `put_block`.
@@ -15,12 +15,12 @@ fn fill_block(block: &mut [u8], number: u32, kind: Kind, data: &[u8])
 {
     let [n1, n0] = (number as u16).to_be_bytes();
     let [u1, u0] = (data.len() as u16).to_be_bytes();
-    let end = 6 + data.len();
-    block[0..6].copy_from_slice(&[n1, n0, kind.number(), 0, u1, u0]);
-    block[6..end].copy_from_slice(data);
-    block[end..508].fill(0);
-    let check = block_check(&block[0..508]).to_be_bytes();
-    block[508..512].copy_from_slice(&check);
+    let end = DATA_AT + data.len();
+    block[0..DATA_AT].copy_from_slice(&[n1, n0, kind.number(), 0, u1, u0]);
+    block[DATA_AT..end].copy_from_slice(data);
+    block[end..CHECK_AT].fill(0);
+    let check = block_check(&block[0..CHECK_AT]).to_be_bytes();
+    block[CHECK_AT..BLOCK_BYTES].copy_from_slice(&check);
 }
 
 // A block at its place in the output.
@@ -31,8 +31,8 @@ pub(crate) fn put_block(output: &mut [u8], number: u32, kind: Kind, data: &[u8])
     ensures front { take (512 * (number + 1)) output.new ≡ take (512 * number) output.old ++ block_bytes number (content (number_of kind) «data».now) }
     ensures back { drop (512 * (number + 1)) output.new ≡ drop (512 * (number + 1)) output.old }
 {
-    let start = 512 * number as usize;
-    fill_block(&mut output[start..start + 512], number, kind, data);
+    let start = BLOCK_BYTES * number as usize;
+    fill_block(&mut output[start..start + BLOCK_BYTES], number, kind, data);
 }
 
 // The blocks of a part, one for each piece, from a number on; the answer is the next number.
@@ -43,8 +43,8 @@ pub(crate) fn put_part(output: &mut [u8], first: u32, kind: Kind, part: &[u8]) -
     ensures front { take (512 * result) output.new ≡ take (512 * first) output.old ++ laid first (map (content (number_of kind)) (pieces part.now)) }
     ensures back { drop (512 * result) output.new ≡ drop (512 * result) output.old }
 {
-    for (k, piece) in part.chunks(502).enumerate() {
+    for (k, piece) in part.chunks(DATA_BYTES).enumerate() {
         put_block(output, first + k as u32, kind, piece);
     }
-    first + part.len().div_ceil(502) as u32
+    first + part.len().div_ceil(DATA_BYTES) as u32
 }

@@ -4,8 +4,6 @@ ghost use Rattle.sealed.specs.declared.parts.ReadFault.TheVariants.{Memory, Refu
 
 use refusal::Refusal;
 use std::alloc::AllocError;
-use std::error::Error;
-use std::fmt;
 
 #[derive(Drop)]
 pub struct Parts {
@@ -19,6 +17,7 @@ pub enum ReadFault {
     Memory,
 }
 
+// By hand, both: a derive states nothing, and the contract of `read_parts` says which fault it is.
 impl From<Refusal> for ReadFault {
     ghost from_gives = { λ refusal r. r ≡ Refused refusal };
 
@@ -34,14 +33,3 @@ impl From<AllocError> for ReadFault {
         ReadFault::Memory
     }
 }
-
-impl fmt::Display for ReadFault {
-    fn fmt<W: fmt::Write>(&self, f: &mut fmt::Formatter<W>) -> fmt::Result {
-        f.write_str(match self {
-            ReadFault::Refused(refusal) => refusal.text(),
-            ReadFault::Memory => "out of memory",
-        })
-    }
-}
-
-impl Error for ReadFault {}

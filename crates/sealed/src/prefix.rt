@@ -1,6 +1,8 @@
 // The first six bytes of a block.
-ghost use Rattle.std.specs.Prelude.{◌≡◌, drop};
+ghost use Rattle.std.specs.Prelude.{◌≡◌};
 ghost use Rattle.sealed.specs.Reading.{prefix_in};
+
+use format::BLOCK_BYTES;
 
 // As they stand there: the kind may be any byte.
 #[derive(Clone, Copy)]
@@ -12,17 +14,15 @@ pub(crate) struct Prefix {
     pub(crate) used: usize,
 }
 
-// The six bytes by name, and the bytes after them.
-pub(crate) fn read_prefix<'a>(block: &'a [u8; 512]) -> (Prefix, &'a [u8])
-    ensures bytes { result.0 ≡ prefix_in block.now }
-    ensures rest { result.1.now ≡ drop 6 block.now }
+// The six bytes by name.
+pub(crate) fn read_prefix(block: &[u8; BLOCK_BYTES]) -> Prefix
+    ensures { result ≡ prefix_in block.now }
 {
     let [n1, n0, kind, reserve, u1, u0, ..] = block;
-    let prefix = Prefix {
-        number: *n1 as u32 * 256 + *n0 as u32,
+    Prefix {
+        number: u32::from(u16::from_be_bytes([*n1, *n0])),
         kind: *kind,
         reserve: *reserve,
-        used: *u1 as usize * 256 + *u0 as usize,
-    };
-    (prefix, &block[6..])
+        used: usize::from(u16::from_be_bytes([*u1, *u0])),
+    }
 }

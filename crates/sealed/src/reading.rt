@@ -5,17 +5,17 @@ ghost use Rattle.format.specs.Kinds.{number_of};
 ghost use Rattle.sealed.specs.Reading.{Parsed, Read, data_held, kind_of};
 ghost use Rattle.sealed.specs.Shapes.{shown};
 
-use crate::faults::{check_block, is_ended};
+use crate::faults::check_block;
 use crate::reader::Reader;
 use crate::record::{Item, Record};
 use crate::shape::Shape;
-use format::Kind;
+use format::{BLOCK_BYTES, DATA_AT, Kind, LARGEST_FILE};
 use refusal::Refusal;
 
 pub(crate) fn size_good(file: &[u8]) -> bool
     ensures { result ≡ is_size_good file.now }
 {
-    file.len() % 512 == 0 && 512 <= file.len() && file.len() <= 33_554_432
+    file.len() % BLOCK_BYTES == 0 && BLOCK_BYTES <= file.len() && file.len() <= LARGEST_FILE
 }
 
 fn record_of<'a>(kind: Kind, data: &'a [u8]) -> Record<'a>
@@ -30,13 +30,15 @@ fn record_of<'a>(kind: Kind, data: &'a [u8]) -> Record<'a>
 }
 
 // The record of a block of this shape, and the bytes after the block.
+// A bare pair, as a parser answers: what was read, and what is left.
 fn parse<'a>(left: &'a [u8], shape: Shape) -> (Record<'a>, &'a [u8])
     requires long { 512 ≤ length left.now }
     requires shape { shown shape ≡ previous (take 512 left.now) }
     ensures { Parsed left.now result.0 result.1.now }
 {
-    let (block, rest) = left.split_at(512);
-    (record_of(shape.kind, &block[6..6 + shape.used]), rest)
+    let (block, rest) = left.split_at(BLOCK_BYTES);
+    let bytes = &block[DATA_AT..DATA_AT + shape.used];
+    (record_of(shape.kind, bytes), rest)
 }
 
 impl<'a> Reader<'a> {
@@ -60,9 +62,9 @@ impl<'a> Reader<'a> {
         if !size_good(file) {
             return Err(Refusal::FileSize);
         }
-        let left = &file[512 * place..];
-        let Some(block) = left.first_chunk::<512>() else {
-            if is_ended(self.last) {
+        let left = &file[BLOCK_BYTES * place..];
+        let Some(block) = left.first_chunk::<BLOCK_BYTES>() else {
+            if self.last.is_some_and(Shape::is_end) {
                 return Ok(None);
             }
             return Err(Refusal::NoEnd {

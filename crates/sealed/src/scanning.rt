@@ -3,10 +3,11 @@ ghost use Rattle.std.specs.Prelude.{◌≡◌, ◌≤◌, true};
 ghost use Rattle.format.specs.Faults.{is_size_good};
 ghost use Rattle.sealed.specs.Checking.{Scanned, first_pass_answer, scan_after};
 
-use crate::faults::{check_block, is_ended};
+use crate::faults::check_block;
 use crate::reading::size_good;
 use crate::shape::Shape;
-use format::{Kind, Lengths};
+use format::{BLOCK_BYTES, Kind, Lengths};
+use message::Part;
 use refusal::Refusal;
 
 // The last block, and how many bytes of data the blocks of each part have.
@@ -17,30 +18,19 @@ pub(crate) struct Scan {
     pub(crate) body: u64,
 }
 
-fn add_block(scan: Scan, block: Shape) -> Scan
-    requires header { scan.header ≤ 33554432 }
-    requires body { scan.body ≤ 33554432 }
-    ensures { result ≡ scan_after scan block }
-{
-    let Scan {
-        last: _,
-        header,
-        body,
-    } = scan;
-    let last = Some(block);
-    let used = block.used as u64;
-    match block.kind {
-        Kind::Header => Scan {
-            last,
-            header: header + used,
-            body,
-        },
-        Kind::Body => Scan {
-            last,
-            header,
-            body: body + used,
-        },
-        Kind::End => Scan { last, header, body },
+impl Scan {
+    fn add(&mut self, block: Shape)
+        requires header { self.old.header ≤ 33554432 }
+        requires body { self.old.body ≤ 33554432 }
+        ensures { self.new ≡ scan_after self.old block }
+    {
+        self.last = Some(block);
+        let used = block.used as u64;
+        match block.kind {
+            Kind::Header => self.header += used,
+            Kind::Body => self.body += used,
+            Kind::End => {}
+        }
     }
 }
 
@@ -54,10 +44,10 @@ fn scan_blocks(file: &[u8]) -> Result<Scan, Refusal>
         header: 0,
         body: 0,
     };
-    let (blocks, _rest) = file.as_chunks::<512>();
+    let (blocks, _rest) = file.as_chunks::<BLOCK_BYTES>();
     for (k, block) in blocks.iter().enumerate() {
         let shape = check_block(block, k as u32, scan.last)?;
-        scan = add_block(scan, shape);
+        scan.add(shape);
     }
     Ok(scan)
 }
@@ -70,13 +60,13 @@ pub(crate) fn first_pass(file: &[u8]) -> Result<Lengths, Refusal>
         return Err(Refusal::FileSize);
     }
     let scan = scan_blocks(file)?;
-    if !is_ended(scan.last) {
+    if !scan.last.is_some_and(Shape::is_end) {
         return Err(Refusal::NoEnd {
-            blocks: (file.len() / 512) as u32,
+            blocks: (file.len() / BLOCK_BYTES) as u32,
         });
     }
-    if scan.header > 65_535 {
-        return Err(Refusal::HeaderTooLong);
+    if scan.header > Part::Header.limit() {
+        return Err(Part::Header.too_long());
     }
     Ok(Lengths {
         header: scan.header,

@@ -10,23 +10,23 @@ use crate::hashing::hash_parts;
 use crate::laying::{put_block, put_part};
 use engine::Engine;
 use field::Block;
-use format::Kind;
+use format::{BLOCK_BYTES, Kind, MOST_BLOCKS, blocks_for};
 use job::Closed;
-use message::Message;
+use message::{Message, Part};
 use refusal::Refusal;
 
 // How many blocks the file has, where it may be written.
 fn count_blocks(header: usize, body: usize, output: usize) -> Result<u32, Refusal>
     ensures { result ≡ room_answer header body output }
 {
-    if header > 65_535 {
-        return Err(Refusal::HeaderTooLong);
+    if header as u64 > Part::Header.limit() {
+        return Err(Part::Header.too_long());
     }
-    let blocks = header.div_ceil(502) + body.div_ceil(502) + 1;
-    if blocks > 65_536 {
+    let blocks = blocks_for(header, body);
+    if blocks > MOST_BLOCKS {
         return Err(Refusal::FileSize);
     }
-    if output < 512 * blocks {
+    if output < BLOCK_BYTES * blocks {
         return Err(Refusal::OutputTooShort);
     }
     Ok(blocks as u32)

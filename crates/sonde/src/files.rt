@@ -2,14 +2,13 @@
 use crate::flight::{Flight, Key};
 use crate::stop::{Argument, Stop};
 use crate::words::{Hex, exactly};
+use format::{BLOCK_BYTES, LARGEST_FILE, blocks_for};
 use message::Message;
 use sealed::{Reader, Record, Sealed, check_file, read_parts, write_file};
 use std::iter;
 
 // From this many bytes on, a command says on standard error what it is at.
 const SLOW: usize = 1 << 20;
-
-const LARGEST: usize = 33_554_432;
 
 fn say(rt: &HostRuntime, bytes: usize, doing: &str) -> Result<(), Stop> {
     if bytes >= SLOW {
@@ -20,14 +19,9 @@ fn say(rt: &HostRuntime, bytes: usize, doing: &str) -> Result<(), Stop> {
 
 // The bytes that the file of a message takes. Zero and no `Option` where it may not be written: the writer then refuses by itself.
 fn file_size(message: Message) -> usize {
-    let Message { header, body } = message;
-    let blocks = header
-        .len()
-        .div_ceil(502)
-        .saturating_add(body.len().div_ceil(502))
-        .saturating_add(1);
-    let size = blocks.saturating_mul(512);
-    if size > LARGEST { 0 } else { size }
+    let blocks = blocks_for(message.header.len(), message.body.len());
+    let size = blocks.saturating_mul(BLOCK_BYTES);
+    if size > LARGEST_FILE { 0 } else { size }
 }
 
 // Writes the sealed file of a flight.
@@ -54,7 +48,7 @@ pub(crate) fn seal_files(rt: &HostRuntime, words: &[String]) -> Result<(), Stop>
     )?;
     println!(rt;
         "file {out}: {} bytes, {} blocks",
-        u64::from(sealed.blocks).saturating_mul(512),
+        u64::from(sealed.blocks).saturating_mul(BLOCK_BYTES as u64),
         sealed.blocks
     )?;
     println!(rt; "hash {}", sealed.hash)?;

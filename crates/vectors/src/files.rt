@@ -2,28 +2,28 @@
 use crate::fault::Fault;
 use engine::Step;
 use field::{Block, Element};
-use format::Lengths;
+use format::{BLOCK_BYTES, DATA_BYTES, LARGEST_FILE, Lengths, MOST_BLOCKS};
 use message::Message;
 use sealed::{check_file, write_file};
 use std::alloc::Global;
 
-const LARGEST: usize = 33_554_432;
-
 // The largest body of a file with no header: 65,535 full blocks.
-const LARGEST_BODY: usize = 65_535 * 502;
+const LARGEST_BODY: usize = (MOST_BLOCKS - 1) * DATA_BYTES;
 
 // The blocks of the file that seals so many zeros, once it was checked.
 fn sealed_blocks(heap: Global, header: usize, body: usize) -> Result<u32, Fault> {
     let header = vec![in heap; 0u8; header]?;
     let body = vec![in heap; 0u8; body]?;
-    let mut file = vec![in heap; 0u8; LARGEST]?;
+    let mut file = vec![in heap; 0u8; LARGEST_FILE]?;
     let step = Step::new(Block::one());
     let message = Message {
         header: &header,
         body: &body,
     };
     let sealed = write_file(step, Block::zero(), message, &mut file).answer?;
-    let size = (sealed.blocks as usize).saturating_mul(512).min(LARGEST);
+    let size = (sealed.blocks as usize)
+        .saturating_mul(BLOCK_BYTES)
+        .min(LARGEST_FILE);
     let wanted = Lengths {
         header: header.len() as u64,
         body: body.len() as u64,

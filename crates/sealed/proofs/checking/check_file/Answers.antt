@@ -1,4 +1,4 @@
-use Rattle.std.proofs.Common.{◌≡◌, ℕ, Bool, cond, eqb, List, take, drop, Err, Result, sym, ap, ◌∙◌, subst, ap₂}
+use Rattle.std.proofs.Common.{◌≡◌, ℕ, Bool, cond, eqb, List, Err, Result, sym, ap, ◌∙◌, subst, ap₂}
 use Rattle.field.specs.Digits.{numeral}
 use Rattle.field.specs.declared.kinds.Block.{Block}
 use Rattle.message.specs.Hash.{tag_of}
@@ -41,8 +41,7 @@ returns g c =
     let tagged : Result Lengths Refusal = tag_verdict h pad file in
     let pass = passed file c.in-Ok.lengths c.in-Ok.ensures in
     let stored : c.stored_tag.result.bits ≡ numeral 256 (tag_in file) =
-    c.stored_tag.ensures ∙ ap (λ (b : List ℕ). numeral 256 (take 16 (drop 6 b))) c.in-Some.ensures.cases.1.same
-    ∙ ap (numeral 256) (tag_stored file c.in-Ok.lengths pass (sized file pass.size)) in
+    c.stored_tag.ensures ∙ ap (numeral 256) (tag_stored file c.in-Ok.lengths pass (sized file pass.size)) in
     let same : eqb c.stored_tag.result.bits c.hash_file-engine.result.tag.bits ≡ eqb (numeral 256 (tag_in file)) (tag_of h pad (header_in file) (body_in file)).bits =
     ap₂ (λ (n : ℕ) (t : Block). eqb n t.bits) stored c.hash_file-engine.ensures.tag in
     let said =

@@ -10,9 +10,9 @@ pub returns-then-prefix-ne0 : goal.returns-then-prefix-ne0
 returns-then-prefix-ne0 c =
     let b = c.args.block.now in
     let kind = c.in-Ok.kind in
-    let p : Prefix = c.read_prefix.result.0 in
+    let p : Prefix = c.args.prefix in
     let number = c.in-Ok.ensures in
-    let named = c.read_prefix.ensures.bytes in
+    let named = c.requires in
     elim c.then-prefix-ne0.branch [
       | then-prefix-ne0-via-then-prefix-ne0 w ↦ bad_reserve b kind p number named w.if-prefix-ne0.true
       | then-prefix-ne0-via-else-prefix-ne0+then-not-used_fits w ↦ bad_used b kind p number named (sym w.if-not-used_fits.ensures)
@@ -23,8 +23,8 @@ returns-then-prefix-ne0 c =
 pub returns : goal.returns
 returns c =
     let b = c.args.block.now in
-    let p : Prefix = c.read_prefix.result.0 in
-    let named = c.read_prefix.ensures.bytes in
+    let p : Prefix = c.args.prefix in
+    let named = c.requires in
     let kind : number_of c.in-Ok.kind ≡ kind_in b = c.in-Ok.ensures ∙ ap (λ (q : Prefix). q.kind) named in
     let used : p.used ≡ used_in b = ap (λ (q : Prefix). q.used) named in (
       good_form b c.in-Ok.kind p c.in-Ok.ensures named c.if-prefix-ne0.false (sym c.if-not-used_fits.ensures) (sym c.if-not-all_zero.ensures),

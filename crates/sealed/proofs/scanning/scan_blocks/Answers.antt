@@ -17,8 +17,8 @@ returns-in_err-shape c =
     (ap (scanned 0 first) (sym (chunks_are c.args.file.now bs c.as_chunks.ensures.front)) ∙ c.loop-k.invariant.scan
     ∙ scan_ends c.loop-k.k last bs _ _ c.loop-k-test.true c.in_err-shape.ensures)
 
-pub add_block-scan-requires : goal.add_block-scan-requires
-add_block-scan-requires c =
+pub add-requires : goal.add-requires
+add-requires c =
     let file : List ℕ = c.args.file.now in
     let bs = c.as_chunks.result.0.now in
     let k : ℕ = c.loop-k.k in
@@ -38,7 +38,7 @@ loop-k-preserved c =
     let inv = c.loop-k.invariant in
     let less = c.loop-k-test.true in
     let said = c.in_ok-shape.ensures.1 in
-    let added = c.add_block-scan.ensures in
+    let added = c.add.ensures in
     let size = chunk_size c.args.file.now bs k _ c.as_chunks.ensures.front (omega (arith, less, c.as_chunks.ensures.front_len)) in
     record {
       scan =
