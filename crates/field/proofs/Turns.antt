@@ -1,5 +1,8 @@
 -- One turn of a loop that multiplies two polynomials over the bits.
-use Rattle.std.proofs.Common.{◌≡◌, ℕ, zero, suc, ◌+◌, ◌-◌, ◌*◌, ◌^◌, ◌<◌, sym, ap, ◌∙◌, ap₂, mod-eq_of_lt, one-mul, zero-mul, add-one, arith}
+use Rattle.std.proofs.Common.{◌≡◌, ℕ, zero, suc, ◌+◌, ◌-◌, ◌*◌, ◌/◌, ◌%◌, ◌^◌, ◌<◌, sym, ap, ◌∙◌, ap₂, mod-eq_of_lt, one-mul, zero-mul, add-one, mod-lt, pow_pos, pow-add, arith}
+use Rattle.std.proofs.Math.Arith.{digits_div}
+use Rattle.std.proofs.Math.Nat.{mul-div-mul_right}
+use Rattle.std.proofs.lemmas.Nat.{mod-pow-add}
 use lib.Bits.{bit_xor, bit_and, and_mask, and_zero_r}
 use Rattle.field.specs.Binary.{Kind, part, shifted, multiplied}
 
@@ -8,6 +11,15 @@ pub masked_part : (bit v width : ℕ) → bit < 2 → v < 2 ^ width → bit_and 
 masked_part zero v width h below = ap (bit_and v) (zero-mul (2 ^ width - 1)) ∙ and_zero_r v
 masked_part (suc zero) v width h below = ap (bit_and v) (one-mul (2 ^ width - 1)) ∙ and_mask v width ∙ mod-eq_of_lt below
 masked_part (suc (suc bit)) v width h below = absurd (omega arith)
+
+-- the top bit of a number moved up, where j places are left
+pub moved_top : (n k j : ℕ) → n * 2 ^ k % 2 ^ (1 + (j + k)) / 2 ^ (j + k) ≡ n / 2 ^ j % 2
+moved_top n k j =
+    let moved : ℕ = n * 2 ^ k in
+    ap (λ (x : ℕ). x / 2 ^ (j + k)) (mod-pow-add moved 1 (j + k))
+    ∙ digits_div (moved / 2 ^ (j + k) % 2 ^ 1) (mod-lt moved (pow_pos (j + k)))
+    ∙ ap (λ (x : ℕ). moved / x % 2) (pow-add 2 j k)
+    ∙ ap (λ (x : ℕ). x % 2) (mul-div-mul_right n (2 ^ j) (pow_pos k))
 
 module _ (kind : Kind) (n a b : ℕ) where
   pub one_more_power : (v next : ℕ) → v ≡ shifted kind.step n b → next ≡ kind.step v → next ≡ shifted kind.step (n + 1) b

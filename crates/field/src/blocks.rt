@@ -102,7 +102,7 @@ impl Polynomial for Block {
     ghost lawful = { block_lawful };
 
     fn coefficient(number: u128, k: u32) -> u128 {
-        (number >> (127 - k)) & 1
+        (number << k) >> 127
     }
 
     fn raised(number: u128) -> u128 {

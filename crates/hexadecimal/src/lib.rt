@@ -42,6 +42,7 @@ impl fmt::Display for HexFault {
 
 impl Error for HexFault {}
 
+// By hand: the derive would state nothing of which fault comes out.
 impl From<AllocError> for HexFault {
     ghost use Rattle.std.specs.Prelude.{◌≡◌};
     ghost use Rattle.hexadecimal.specs.declared.HexFault.TheVariants.{NoMemory};

@@ -14,7 +14,7 @@ use engine::Engine;
 use message::block_of;
 use refusal::Refusal;
 
-// The bytes that wait are hashed, filled with zeros.
+// The bytes that wait are hashed, filled with zeros. No method: a full block may wait here, which `Filling` rules out.
 fn absorb_held<E: Engine>(engine: &mut E, held: &mut ArrayVec<u8, 16>)
     ensures hashed { Hashed E.Engine engine.old (block_of (filled (take 16 held.old.items)) ∷ []) engine.new }
     ensures left { held.new.items ≡ [] }

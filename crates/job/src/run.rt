@@ -13,6 +13,7 @@ use refusal::Refusal;
 use std::alloc::Global;
 
 impl<E: Engine> Filling<E> {
+    // A match and no closures: calls are values that come from a list, and these are their two kinds.
     fn answer(&mut self, call: &Call) -> Result<(), Refusal>
         ensures part { self.new.part ≡ self.old.part }
         ensures answered { (h : Block) (given : Bool) (before : List Block) (taken : List ℕ) → Holds E.Engine h given before self.old taken → Answered E.Engine h given before self.old taken (call.now ∷ []) (result ∷ []) self.new }

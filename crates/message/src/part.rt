@@ -28,6 +28,7 @@ impl Part {
         }
     }
 
+    // Named and no From, since a part may be refused for other causes too.
     pub fn too_long(self) -> Refusal
         ensures { result ≡ refusal_of_part self }
     {

@@ -5,8 +5,8 @@ use crate::binary::Binary;
 use field::Element;
 
 // A lent scratch: as many elements as a polynomial has coefficients, zeroed when it goes, on whichever way the call ends.
-// The two calls that take one look at its length themselves: tried, but no borrow is proved through a constructor that
-// answers a `Result`.
+// The two calls that take one look at its length themselves: `split_at_mut_checked` and a constructor that answers a `Result`
+// were tried, and behind an `Option` or a `Result` the halves are no longer seen to be written back.
 pub(crate) struct Scratch<'a, K: Binary> {
     pub(crate) elements: &'a mut [K],
     ghost whole: { length elements.now ≡ K.Binary.width },

@@ -11,6 +11,7 @@ use field::{Block, Element};
 use message::{Digest, Message};
 use refusal::Refusal;
 
+// The pad stays apart from the message and the engine: a job takes it only at its close, and an engine holds the subkey.
 // Hash and tag of a header and a body under the engine's subkey. A refusal comes before the engine is touched.
 // It stays beside `Message::hash_and_tag`, the plain recursion below any engine that engines are compared with.
 pub fn tag_message<E: Engine>(
