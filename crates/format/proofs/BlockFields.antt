@@ -32,12 +32,12 @@ pub used_limit : (kind used : ℕ) → is_used_fit kind used ≡ true → used �
 used_limit kind used e = grind (arith, nat_tests)
 
 -- what the form of a block asks, part by part
-record Form (b : List ℕ) : Type 0 where
-  low : 1 ≤ kind_in b
-  high : kind_in b ≤ 3
-  reserve : reserve_in b ≡ 0
-  used : is_used_fit (kind_in b) (used_in b) ≡ true
-  zeros : is_all_zero (fill_in b) ≡ true
+pub record Form (b : List ℕ) : Type 0 where
+  pub low : 1 ≤ kind_in b
+  pub high : kind_in b ≤ 3
+  pub reserve : reserve_in b ≡ 0
+  pub used : is_used_fit (kind_in b) (used_in b) ≡ true
+  pub zeros : is_all_zero (fill_in b) ≡ true
 
 form_from : (b : List ℕ) → Form b → is_form_good b ≡ true
 form_from b f =
@@ -46,7 +46,7 @@ form_from b f =
     (and_from (eqb (reserve_in b) 0) _ (eq-eqb (reserve_in b) 0 f.reserve)
     (and_from (is_used_fit (kind_in b) (used_in b)) (is_all_zero (fill_in b)) f.used f.zeros)))
 
-form_parts : (b : List ℕ) → is_form_good b ≡ true → Form b
+pub form_parts : (b : List ℕ) → is_form_good b ≡ true → Form b
 form_parts b e =
     let one = and_parts (leb 1 (kind_in b)) (leb (kind_in b) 3 && (eqb (reserve_in b) 0 && (is_used_fit (kind_in b) (used_in b) && is_all_zero (fill_in b)))) e in
     let two = and_parts (leb (kind_in b) 3) (eqb (reserve_in b) 0 && (is_used_fit (kind_in b) (used_in b) && is_all_zero (fill_in b))) one.1 in

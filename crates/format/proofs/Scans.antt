@@ -13,19 +13,19 @@ use Rattle.format.proofs.Sequences.{shown, Follows, part_of}
 
 -- ---- a block without fault
 
-record Faultless (k : ℕ) (p : Previous) (b : List ℕ) : Type 0 where
-  check : check_in b ≡ check_of (take 508 b)
-  number : number_in b ≡ k
-  form : is_form_good b ≡ true
-  order : is_order_good p (kind_in b) ≡ true
+pub record Faultless (k : ℕ) (p : Previous) (b : List ℕ) : Type 0 where
+  pub check : check_in b ≡ check_of (take 508 b)
+  pub number : number_in b ≡ k
+  pub form : is_form_good b ≡ true
+  pub order : is_order_good p (kind_in b) ≡ true
 
 -- a test before a refusal was passed
-passed : (t : Bool) (o : Option Refusal) (y : Refusal) → cond t o (Some y) ≡ None → (t ≡ true) × (o ≡ None)
+pub passed : (t : Bool) (o : Option Refusal) (y : Refusal) → cond t o (Some y) ≡ None → (t ≡ true) × (o ≡ None)
 passed true o y e = (refl, e)
 passed false o y e = let z : ◌≡◌ {A = ℕ} 0 1 = cc in absurd (omega arith)
 
 -- no fault: every test was passed, and the other way round
-faultless : (k : ℕ) (p : Previous) (b : List ℕ) → fault_of k p b ≡ None → Faultless k p b
+pub faultless : (k : ℕ) (p : Previous) (b : List ℕ) → fault_of k p b ≡ None → Faultless k p b
 faultless k p b e =
     let one = passed (eqb (check_in b) (check_of (take 508 b))) _ (WrongCheck k) e in
     let two = passed (eqb (number_in b) k) _ (WrongNumber k) one.1 in
@@ -48,7 +48,7 @@ no_fault k p b f =
 -- ---- what a scan without fault says of the blocks
 
 -- a scan that ends well met no fault and went on
-went_on : {T : Type 0} (o : Option Refusal) (r : Result T Refusal) (x : T) → on_fault o r ≡ Ok x → (o ≡ None) × (r ≡ Ok x)
+pub went_on : {T : Type 0} (o : Option Refusal) (r : Result T Refusal) (x : T) → on_fault o r ≡ Ok x → (o ≡ None) × (r ≡ Ok x)
 went_on None r x e = (refl, e)
 went_on (Some y) r x e = let z : ◌≡◌ {A = ℕ} 0 1 = cc in absurd (omega arith)
 

@@ -10,7 +10,7 @@ use Rattle.format.proofs.Pieces.{length_pieces, pieces_more}
 use Rattle.format.specs.Layout.{Content, blocks_for, front, check_of, block_bytes, content, contents, laid, pieces}
 use Rattle.field.specs.Digits.{digits}
 use Rattle.sealed.specs.Writing.{room_answer}
-use Rattle.sealed.proofs.Places.{passes}
+use Rattle.format.proofs.Laws.{taken}
 use Rattle.sealed.proofs.Numbers.{two_digits, four_digits}
 
 -- ---- one block
@@ -96,11 +96,6 @@ module _ (piece more : List ℕ) (size : length piece ≡ min 502 (length (piece
         | no h ↦ inr (omega arith, omega arith)
       ]
 
-  pub count_more : (length (piece ++ more) + 501) / 502 ≡ suc ((length more + 501) / 502)
-  count_more =
-      let whole = length-append piece more in
-      elim next [ inl full ↦ omega arith | inr short ↦ omega arith ]
-
   pub next_piece : pieces (piece ++ more) ≡ piece ∷ pieces more
   next_piece = let whole = length-append piece more in pieces_more piece more (omega arith) next
 
@@ -136,11 +131,11 @@ whole_laid header body tag n k upto-body upto-end =
 
 pub room_enough : (header body output n : ℕ) → Ok n ≡ room_answer header body output → 512 * blocks_for header body ≤ output
 room_enough header body output n done =
-    let short = passes (leb header 65535) _ _ _ done in
-    let few = passes (leb (blocks_for header body) 65536) _ _ _ short.1 in
-    leb-true (512 * blocks_for header body) output (passes (leb (512 * blocks_for header body) output) _ _ _ few.1).0
+    let short = taken (leb header 65535) _ _ _ (sym done) in
+    let few = taken (leb (blocks_for header body) 65536) _ _ _ short.1 in
+    leb-true (512 * blocks_for header body) output (taken (leb (512 * blocks_for header body) output) _ _ _ few.1).0
 
 pub limits_kept : (header body output n : ℕ) → Ok n ≡ room_answer header body output → (header ≤ 65535) × (blocks_for header body ≤ 65536)
 limits_kept header body output n done =
-    let short = passes (leb header 65535) _ _ _ done in
-    (leb-true header 65535 short.0, leb-true (blocks_for header body) 65536 (passes (leb (blocks_for header body) 65536) _ _ _ short.1).0)
+    let short = taken (leb header 65535) _ _ _ (sym done) in
+    (leb-true header 65535 short.0, leb-true (blocks_for header body) 65536 (taken (leb (blocks_for header body) 65536) _ _ _ short.1).0)
