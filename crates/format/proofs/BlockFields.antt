@@ -100,26 +100,30 @@ module _ (n : ℕ) (c : Content) where
   unfolding front digits
   number_laid below = pair_number n below
 
+  module _ (limit : length c.bytes ≤ 502) where
+    -- number, kind, reserve, used length, data and zeros take 508 bytes
+    length_front : length (front n c) ≡ 508
+    unfolding front digits
+    length_front = simp (length-append, length-replicate) (omega arith)
+
+    pub length_block : length (block_bytes n c) ≡ 512
+    length_block =
+        length-append (front n c) (digits 256 4 (check_of (front n c)))
+        ∙ ap₂ (λ (x y : ℕ). x + y) length_front (length_digits 256 4 (check_of (front n c)))
+
   module _ (fit : Fit c) where
     limit : length c.bytes ≤ 502
     limit = used_limit c.kind (length c.bytes) fit.used
 
-    -- number, kind, reserve, used length, data and zeros take 508 bytes
-    length_front : length (front n c) ≡ 508
-    unfolding front digits
-    length_front = let l = limit in simp (length-append, length-replicate) (omega arith)
-
     pub length_laid : length (block_bytes n c) ≡ 512
-    length_laid =
-        length-append (front n c) (digits 256 4 (check_of (front n c)))
-        ∙ ap₂ (λ (x y : ℕ). x + y) length_front (length_digits 256 4 (check_of (front n c)))
+    length_laid = length_block limit
 
     pub front_laid : take 508 (block_bytes n c) ≡ front n c
-    front_laid = take_at (front n c) (digits 256 4 (check_of (front n c))) 508 length_front
+    front_laid = take_at (front n c) (digits 256 4 (check_of (front n c))) 508 (length_front limit)
 
     pub check_laid : check_in (block_bytes n c) ≡ check_of (front n c)
     check_laid =
-        ap (numeral 256) (drop_at (front n c) (digits 256 4 (check_of (front n c))) 508 length_front)
+        ap (numeral 256) (drop_at (front n c) (digits 256 4 (check_of (front n c))) 508 (length_front limit))
         ∙ numeral_digits 256 (lit< tt) 4 (check_of (front n c))
         ∙ mod-eq_of_lt (check_below (front n c))
 

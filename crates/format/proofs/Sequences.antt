@@ -32,7 +32,7 @@ part_of kind (c ∷ cs) = cond (eqb c.kind kind) (c.bytes ++ part_of kind cs) (p
 -- ---- contents in order are those of a header, a body and a tag
 
 -- nothing may stand after the end
-not_past_end : (p : Previous) (kind : ℕ) → is_order_good p kind ≡ true → p.kind ≡ 3 → ⊥
+pub not_past_end : (p : Previous) (kind : ℕ) → is_order_good p kind ≡ true → p.kind ≡ 3 → ⊥
 not_past_end p kind e end = grind (arith, nat_tests)
 
 -- kinds do not fall

@@ -73,17 +73,6 @@ module _ (block : List ℕ) (whole : length block ≡ 512) (number kind : ℕ) (
         ∙ ap₂ (λ (xs ys : List ℕ). xs ++ ys) front_laid
         (wrote₄ ∙ sym (four_digits check) ∙ ap (digits 256 4) (counted ∙ ap check_of front_laid))
 
-pub block_length : (number kind : ℕ) (bytes : List ℕ) → length bytes ≤ 502 → length (block_bytes number (content kind bytes)) ≡ 512
-unfolding front
-block_length number kind bytes short =
-    let fill : List ℕ = replicate (502 - length bytes) 0 in
-    let prefix = ap₂ (λ (xs ys : List ℕ). length (xs ++ (kind ∷ (0 ∷ (ys ++ (bytes ++ fill)))))) (two_digits number) (two_digits (length bytes)) in
-    let written = length-append bytes fill in
-    let zeros : length fill ≡ 502 - length bytes = length-replicate (502 - length bytes) 0 in
-    let check = ap length (four_digits (check_of (front number (content kind bytes)))) in
-    length-append (front number (content kind bytes)) (digits 256 4 (check_of (front number (content kind bytes))))
-    ∙ omega (arith, prefix, written, zeros, check)
-
 -- ---- the pieces of a part
 
 -- the next piece, and those of what follows

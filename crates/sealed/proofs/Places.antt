@@ -1,12 +1,13 @@
 -- The blocks of a file by their places, and what the tests on them tell.
-use Rattle.std.proofs.Common.{◌≡◌, ℕ, suc, ◌+◌, ◌-◌, ◌*◌, ◌%◌, ◌<◌, ◌≤◌, Bool, true, false, not, ◌&&◌, eqb, leb, List, length, take, drop, None, sym, refl, ap, ◌∙◌, arith}
-use Rattle.std.proofs.lemmas.Bool.{true≢false, and_from, and_left, and_right, and_parts, eqb-true, leb-true, cond-true, cond-false, ne_eqb, eq-eqb}
+use Rattle.std.proofs.Common.{◌≡◌, ℕ, suc, ◌+◌, ◌-◌, ◌*◌, ◌%◌, ◌<◌, ◌≤◌, Bool, true, false, ◌&&◌, eqb, leb, List, length, take, drop, None, sym, refl, ap, ◌∙◌, arith}
+use Rattle.std.proofs.lemmas.Bool.{and_from, and_left, and_right, and_parts, eqb-true, leb-true, cond-true, cond-false, ne_eqb, eq-eqb}
 use Rattle.std.proofs.lemmas.List.{drop-take, length-drop, length-take-le}
 use Rattle.format.specs.Faults.{Previous, kind_in, used_in, is_used_fit, is_all_zero, is_form_good, is_size_good, block_at, previous_at, fault_of}
 use Rattle.format.specs.Kinds.{number_of}
 use Rattle.format.specs.declared.kind.Kind.{Kind}
 use Rattle.format.specs.declared.kind.Kind.TheVariants.{Header, Body, End}
 use Rattle.format.proofs.BlockFields.{form_parts, used_limit}
+use Rattle.format.proofs.Sequences.{not_past_end}
 use Rattle.format.proofs.Scans.{faultless}
 use Rattle.sealed.specs.Reading.{prefix_in, wrong_at}
 use Rattle.sealed.specs.declared.prefix.Prefix.{Prefix}
@@ -70,11 +71,7 @@ module _ (b : List ℕ) (k : Kind) (p : Prefix) (kind : number_of k ≡ p.kind) 
 
 -- nothing stands after an end block
 pub no_fault_order : (k : ℕ) (p : Previous) (b : List ℕ) → fault_of k p b ≡ None → eqb p.kind 3 ≡ false
-no_fault_order k p b none = unless (eqb p.kind 3) (and_parts (not (eqb p.kind 3)) _ (faultless k p b none).order).0
-  where
-    unless : (t : Bool) → not t ≡ true → t ≡ false
-    unless true h = absurd (true≢false (sym h))
-    unless false h = refl
+no_fault_order k p b none = ne_eqb p.kind 3 (not_past_end p (kind_in b) (faultless k p b none).order)
 
 pub used_of_end : (b : List ℕ) → is_form_good b ≡ true → kind_in b ≡ 3 → used_in b ≡ 16
 used_of_end b good end =

@@ -146,9 +146,6 @@ take_min n k b least whole =
 pub scan_on : (k : ℕ) (p : Previous) (b : List ℕ) (bs : List (List ℕ)) → fault_of k p b ≡ None → scanned k p (b ∷ bs) ≡ scanned (suc k) (previous b) bs
 scan_on k p b bs none = ap (λ o. on_fault o (scanned (suc k) (previous b) bs)) none
 
-pub scan_stop : (k : ℕ) (p : Previous) (b : List ℕ) (bs : List (List ℕ)) (e : Refusal) → fault_of k p b ≡ Some e → scanned k p (b ∷ bs) ≡ Err e
-scan_stop k p b bs e bad = ap (λ o. on_fault o (scanned (suc k) (previous b) bs)) bad
-
 -- a scan from block k on: past a block without fault, and no further than one with a fault
 pub scan_more : (k : ℕ) (p : Previous) (bs : List (List ℕ)) (d : List ℕ) → k < length bs → fault_of k p (get_or bs k d) ≡ None
     → scanned k p (drop k bs) ≡ scanned (k + 1) (previous (get_or bs k d)) (drop (k + 1) bs)
@@ -157,4 +154,4 @@ scan_more k p bs d less none =
     ∙ ap (λ (j : ℕ). scanned j (previous (get_or bs k d)) (drop (k + 1) bs)) (sym (add-one k))
 
 pub scan_ends : (k : ℕ) (p : Previous) (bs : List (List ℕ)) (d : List ℕ) (e : Refusal) → k < length bs → fault_of k p (get_or bs k d) ≡ Some e → scanned k p (drop k bs) ≡ Err e
-scan_ends k p bs d e less bad = ap (scanned k p) (drop_more bs k d less) ∙ scan_stop k p (get_or bs k d) (drop (k + 1) bs) e bad
+scan_ends k p bs d e less bad = ap (scanned k p) (drop_more bs k d less) ∙ ap (λ o. on_fault o (scanned (suc k) (previous (get_or bs k d)) (drop (k + 1) bs))) bad
