@@ -1,8 +1,7 @@
 -- One block: what its fields say, and that a block without fault is laid out from its content.
-use Rattle.std.proofs.Common.{◌≡◌, ℕ, ◌+◌, ◌-◌, ◌^◌, ◌<◌, ◌≤◌, true, ◌&&◌, eqb, leb, List, [], ◌∷◌, ◌++◌, map, length, get_or, take, drop, replicate, sym, refl, ap, ◌∙◌, subst, ap₂, append_assoc, mod-eq_of_lt, arith, lit<, length-append, length-drop, take-append-drop}
+use Rattle.std.proofs.Common.{◌≡◌, ℕ, ◌+◌, ◌-◌, ◌^◌, ◌<◌, ◌≤◌, true, List, [], ◌∷◌, ◌++◌, map, length, get_or, take, drop, replicate, sym, refl, ap, ◌∙◌, subst, ap₂, append_assoc, mod-eq_of_lt, arith, lit<, length-append, length-drop, take-append-drop}
 use lib.ListN.{length-replicate}
 use Rattle.std.proofs.lemmas.List.{take_at, drop_at, take-take, drop-take, drop-drop, length-take-le}
-use Rattle.std.proofs.lemmas.Bool.{and_parts, and_from, eqb-true, eq-eqb, leb-true, le-leb}
 use Rattle.std.proofs.lemmas.Bool.Decides.{nat_tests}
 use Rattle.field.specs.Digits.{numeral, digits}
 use Rattle.field.specs.Evaluation.{eval}
@@ -40,25 +39,16 @@ pub record Form (b : List ℕ) : Type 0 where
   pub zeros : is_all_zero (fill_in b) ≡ true
 
 form_from : (b : List ℕ) → Form b → is_form_good b ≡ true
-form_from b f =
-    and_from (leb 1 (kind_in b)) _ (le-leb 1 (kind_in b) f.low)
-    (and_from (leb (kind_in b) 3) _ (le-leb (kind_in b) 3 f.high)
-    (and_from (eqb (reserve_in b) 0) _ (eq-eqb (reserve_in b) 0 f.reserve)
-    (and_from (is_used_fit (kind_in b) (used_in b)) (is_all_zero (fill_in b)) f.used f.zeros)))
+form_from b f = grind (arith, nat_tests, f.low, f.high, f.reserve, f.used, f.zeros)
 
 pub form_parts : (b : List ℕ) → is_form_good b ≡ true → Form b
-form_parts b e =
-    let one = and_parts (leb 1 (kind_in b)) (leb (kind_in b) 3 && (eqb (reserve_in b) 0 && (is_used_fit (kind_in b) (used_in b) && is_all_zero (fill_in b)))) e in
-    let two = and_parts (leb (kind_in b) 3) (eqb (reserve_in b) 0 && (is_used_fit (kind_in b) (used_in b) && is_all_zero (fill_in b))) one.1 in
-    let three = and_parts (eqb (reserve_in b) 0) (is_used_fit (kind_in b) (used_in b) && is_all_zero (fill_in b)) two.1 in
-    let four = and_parts (is_used_fit (kind_in b) (used_in b)) (is_all_zero (fill_in b)) three.1 in
-    record {
-      low = leb-true 1 (kind_in b) one.0;
-      high = leb-true (kind_in b) 3 two.0;
-      reserve = eqb-true (reserve_in b) 0 three.0;
-      used = four.0;
-      zeros = four.1;
-    }
+form_parts b e = record {
+  low = grind (arith, nat_tests);
+  high = grind (arith, nat_tests);
+  reserve = grind (arith, nat_tests);
+  used = grind (arith, nat_tests);
+  zeros = grind (arith, nat_tests);
+}
 
 -- the check fits in four bytes
 check_below : (bytes : List ℕ) → check_of bytes < 256 ^ 4

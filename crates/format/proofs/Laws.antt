@@ -1,6 +1,7 @@
 -- The check accepts sealed files and no others.
-use Rattle.std.proofs.Common.{◌≡◌, ℕ, ◌+◌, ◌*◌, ◌/◌, ◌%◌, ◌≤◌, Bool, true, false, cond, ◌&&◌, eqb, leb, List, map, length, Ok, Err, Result, sym, refl, ap, ◌∙◌, subst, ap₂, mod-eq_of_lt, arith, lit<}
-use Rattle.std.proofs.lemmas.Bool.{and_parts, and_from, cond-true, eqb-true, eq-eqb, leb-true, le-leb}
+use Rattle.std.proofs.Common.{◌≡◌, ℕ, ◌+◌, ◌*◌, ◌/◌, ◌%◌, ◌≤◌, Bool, true, false, cond, eqb, leb, List, map, length, Ok, Err, Result, sym, refl, ap, ◌∙◌, subst, ap₂, mod-eq_of_lt, arith, lit<}
+use Rattle.std.proofs.lemmas.Bool.{cond-true, eqb-true, eq-eqb, leb-true, le-leb}
+use Rattle.std.proofs.lemmas.Bool.Decides.{nat_tests}
 use Rattle.field.specs.Bytes.{bytes_of}
 use Rattle.field.specs.Digits.{numeral, digits}
 use Rattle.field.specs.declared.kinds.Block.{Block}
@@ -96,8 +97,7 @@ module _ (subkey pad : Block) (header body : List ℕ) where
     size_sealed =
         let n : ℕ = length (sealed subkey pad header body) in
         let long : n ≡ 512 * blocks_for (length header) (length body) = length_sealed subkey pad header body in
-        and_from (eqb (n % 512) 0) (leb 512 n && leb n 33554432) (eq-eqb (n % 512) 0 (omega arith))
-        (and_from (leb 512 n) (leb n 33554432) (le-leb 512 n (omega arith)) (le-leb n 33554432 (omega arith)))
+        grind (arith, nat_tests)
 
     -- the check accepts it, and tells how long its parts are
     pub sealed_accepted : verdict subkey pad (sealed subkey pad header body) ≡ Ok record { header = length header; body = length body }
@@ -178,7 +178,7 @@ unfolding blocks_of sealed
 accepted_sealed subkey pad file lens small e =
     let a : Accepted subkey pad file lens = accepted_parts subkey pad file lens e in
     let m : ℕ = length file / 512 in
-    let whole : length file % 512 ≡ 0 = eqb-true (length file % 512) 0 (and_parts (eqb (length file % 512) 0) (leb 512 (length file) && leb (length file) 33554432) a.pass.size).0 in
+    let whole : length file % 512 ≡ 0 = grind (arith, nat_tests, a.pass.size) in
     let found = scanned_laid m 0 first a.pass.last file (omega arith) small a.pass.scan a.pass.end in
     let cs : List Content = map content_of (rows_of m file) in
     let ordered : Whole cs = in_order first cs found.1 (omega arith) in

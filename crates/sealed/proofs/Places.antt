@@ -1,6 +1,7 @@
 -- The blocks of a file by their places, and what the tests on them tell.
 use Rattle.std.proofs.Common.{◌≡◌, ℕ, suc, ◌+◌, ◌-◌, ◌*◌, ◌%◌, ◌<◌, ◌≤◌, Bool, true, false, ◌&&◌, eqb, leb, List, length, take, drop, None, sym, refl, ap, ◌∙◌, arith}
-use Rattle.std.proofs.lemmas.Bool.{and_from, and_left, and_right, and_parts, eqb-true, leb-true, cond-true, cond-false, ne_eqb, eq-eqb}
+use Rattle.std.proofs.lemmas.Bool.{cond-true, cond-false, ne_eqb}
+use Rattle.std.proofs.lemmas.Bool.Decides.{nat_tests}
 use Rattle.std.proofs.lemmas.List.{drop-take, length-drop, length-take-le}
 use Rattle.format.specs.Faults.{Previous, kind_in, used_in, is_used_fit, is_all_zero, is_form_good, is_size_good, block_at, previous_at, fault_of}
 use Rattle.format.specs.Kinds.{number_of}
@@ -20,10 +21,7 @@ pub record Sized (file : List ℕ) : Type 0 where
   pub few : length file ≤ 33554432
 
 pub sized : (file : List ℕ) → is_size_good file ≡ true → Sized file
-sized file good =
-    let a = and_parts _ _ good in
-    let b = and_parts _ _ a.1 in
-    record { whole = eqb-true _ _ a.0; some = leb-true _ _ b.0; few = leb-true _ _ b.1 }
+sized file good = record { whole = grind (arith, nat_tests); some = grind (arith, nat_tests); few = grind (arith, nat_tests) }
 
 -- ---- a block of good form
 
@@ -58,24 +56,23 @@ module _ (b : List ℕ) (k : Kind) (p : Prefix) (kind : number_of k ≡ p.kind) 
   fill_read fits = ap is_all_zero (sym (fill_is b p.used (used_limit (number_of k) p.used fits)))
 
   pub bad_reserve : (p.reserve ≡ 0 → ⊥) → is_form_good b ≡ false
-  bad_reserve some = form_is ∙ and_left (eqb p.reserve 0) _ (ne_eqb p.reserve 0 some)
+  bad_reserve some = grind (arith, nat_tests, form_is)
 
   pub bad_used : is_used_fit (number_of k) p.used ≡ false → is_form_good b ≡ false
-  bad_used bad = form_is ∙ and_right (eqb p.reserve 0) _ (and_left (is_used_fit (number_of k) p.used) zeros bad)
+  bad_used bad = grind (arith, nat_tests, form_is)
 
   pub bad_fill : is_used_fit (number_of k) p.used ≡ true → is_all_zero slice ≡ false → is_form_good b ≡ false
-  bad_fill fits bad = form_is ∙ and_right (eqb p.reserve 0) _ (and_right (is_used_fit (number_of k) p.used) zeros (fill_read fits ∙ bad))
+  bad_fill fits bad = grind (arith, nat_tests, form_is, fill_read fits)
 
   pub good_form : p.reserve ≡ 0 → is_used_fit (number_of k) p.used ≡ true → is_all_zero slice ≡ true → is_form_good b ≡ true
-  good_form none fits good = form_is ∙ and_from _ _ (eq-eqb p.reserve 0 none) (and_from _ _ fits (fill_read fits ∙ good))
+  good_form none fits good = grind (arith, nat_tests, form_is, fill_read fits)
 
 -- nothing stands after an end block
 pub no_fault_order : (k : ℕ) (p : Previous) (b : List ℕ) → fault_of k p b ≡ None → eqb p.kind 3 ≡ false
 no_fault_order k p b none = ne_eqb p.kind 3 (not_past_end p (kind_in b) (faultless k p b none).order)
 
 pub used_of_end : (b : List ℕ) → is_form_good b ≡ true → kind_in b ≡ 3 → used_in b ≡ 16
-used_of_end b good end =
-    eqb-true (used_in b) 16 (sym (cond-true _ _ _ (eq-eqb (kind_in b) 3 end)) ∙ (form_parts b good).used)
+used_of_end b good end = grind (arith, nat_tests, (form_parts b good).used)
 
 -- ---- places
 
