@@ -1,11 +1,10 @@
 -- Blocks laid into an output, one after another.
-use Rattle.std.proofs.Common.{◌≡◌, ℕ, suc, ◌+◌, ◌-◌, ◌*◌, ◌/◌, ◌%◌, ◌<◌, ◌≤◌, min, leb, List, [], ◌∷◌, ◌++◌, map, length, take, drop, replicate, Ok, sym, ap, ◌∙◌, ap₂, inl, inr, append_assoc, append-nil, arith, length-append}
-use native.Mathlib.Decide.{dec_le}
+use Rattle.std.proofs.Common.{◌≡◌, ℕ, suc, ◌+◌, ◌-◌, ◌*◌, ◌/◌, ◌%◌, ◌<◌, ◌≤◌, min, leb, List, [], ◌∷◌, ◌++◌, map, length, take, drop, replicate, Ok, sym, ap, ◌∙◌, ap₂, append_assoc, append-nil, arith, length-append}
 use borrow.Rule.Slice.PartMut.{put_mid, same_len_mid}
 use Rattle.std.proofs.lemmas.List.{length-drop, length-take-le, length-replicate, length-map, drop-drop, take_all}
 use Rattle.std.proofs.lemmas.Slice.{take-put_mid}
 use Rattle.std.proofs.lemmas.Bool.{leb-true}
-use Rattle.message.proofs.Cutting.{Next}
+use Rattle.message.proofs.Cutting.{next_of}
 use Rattle.format.proofs.Pieces.{length_pieces, pieces_more}
 use Rattle.format.specs.Layout.{Content, blocks_for, front, check_of, block_bytes, content, contents, laid, pieces}
 use Rattle.field.specs.Digits.{digits}
@@ -76,17 +75,10 @@ module _ (block : List ℕ) (whole : length block ≡ 512) (number kind : ℕ) (
 -- ---- the pieces of a part
 
 -- the next piece, and those of what follows
-module _ (piece more : List ℕ) (size : length piece ≡ min 502 (length (piece ++ more))) (some : 0 < length (piece ++ more)) where
-  next : Next 502 piece more
-  next =
-      let whole = length-append piece more in
-      elim (dec_le 502 (length piece + length more)) [
-        | yes h ↦ inl (omega arith)
-        | no h ↦ inr (omega arith, omega arith)
-      ]
-
-  pub next_piece : pieces (piece ++ more) ≡ piece ∷ pieces more
-  next_piece = let whole = length-append piece more in pieces_more piece more (omega arith) next
+pub next_piece : (piece more : List ℕ) → length piece ≡ min 502 (length (piece ++ more)) → 0 < length (piece ++ more) → pieces (piece ++ more) ≡ piece ∷ pieces more
+next_piece piece more size some =
+    let whole = length-append piece more in
+    pieces_more piece more (omega arith) (next_of 502 piece more size)
 
 pub laid_append : (n : ℕ) (cs ds : List Content) → laid n (cs ++ ds) ≡ laid n cs ++ laid (n + length cs) ds
 laid_append n [] ds = let e : n ≡ n + 0 = omega arith in ap (λ (k : ℕ). laid k ds) e

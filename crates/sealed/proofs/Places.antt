@@ -49,8 +49,7 @@ module _ (b : List ℕ) (k : Kind) (p : Prefix) (kind : number_of k ≡ p.kind) 
       let said : prefix_in b ≡ p = sym named in
       let number : kind_in b ≡ number_of k = sym (kind ∙ ap (λ (q : Prefix). q.kind) named) in
       (λ i. leb 1 (number i) && (leb (number i) 3 && (eqb (said i).reserve 0 && (is_used_fit (number i) (said i).used && is_all_zero (drop (6 + (said i).used) (take 508 b))))))
-      ∙ ap (λ (t : Bool). t && (leb (number_of k) 3 && (eqb p.reserve 0 && (is_used_fit (number_of k) p.used && zeros)))) (in_range k).0
-      ∙ ap (λ (t : Bool). t && (eqb p.reserve 0 && (is_used_fit (number_of k) p.used && zeros))) (in_range k).1
+      ∙ grind (arith, nat_tests, (in_range k).0, (in_range k).1)
 
   fill_read : is_used_fit (number_of k) p.used ≡ true → zeros ≡ is_all_zero slice
   fill_read fits = ap is_all_zero (sym (fill_is b p.used (used_limit (number_of k) p.used fits)))
