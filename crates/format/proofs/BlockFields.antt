@@ -38,9 +38,6 @@ pub record Form (b : List ℕ) : Type 0 where
   pub used : is_used_fit (kind_in b) (used_in b) ≡ true
   pub zeros : is_all_zero (fill_in b) ≡ true
 
-form_from : (b : List ℕ) → Form b → is_form_good b ≡ true
-form_from b f = grind (arith, nat_tests, f.low, f.high, f.reserve, f.used, f.zeros)
-
 pub form_parts : (b : List ℕ) → is_form_good b ≡ true → Form b
 form_parts b e = record {
   low = grind (arith, nat_tests);
@@ -141,14 +138,7 @@ module _ (n : ℕ) (c : Content) where
     content_laid = ap₂ content kind_laid data_laid
 
     pub form_laid : is_form_good (block_bytes n c) ≡ true
-    form_laid =
-        form_from (block_bytes n c) record {
-          low = subst (λ (k : ℕ). 1 ≤ k) (sym kind_laid) fit.low;
-          high = subst (λ (k : ℕ). k ≤ 3) (sym kind_laid) fit.high;
-          reserve = reserve_laid;
-          used = ap₂ is_used_fit kind_laid used_laid ∙ fit.used;
-          zeros = fill_laid;
-        }
+    form_laid = grind (arith, nat_tests, fit.low, fit.high, reserve_laid, kind_laid, used_laid, fit.used, fill_laid)
 
 -- ---- a block whose check, number and form are right
 

@@ -1,11 +1,11 @@
 -- A scan without fault, and the contents of its blocks.
-use Rattle.std.proofs.Common.{◌≡◌, ℕ, zero, suc, ◌+◌, ◌*◌, ◌/◌, ◌<◌, ◌≤◌, Bool, true, false, cond, eqb, List, [], ◌∷◌, ◌++◌, map, length, take, drop, Some, None, Ok, Option, Result, sym, refl, ap, ◌∙◌, subst, ap₂, arith, length-append, length-drop, take-append-drop}
+use Rattle.std.proofs.Common.{◌≡◌, ℕ, zero, suc, ◌+◌, ◌*◌, ◌/◌, ◌<◌, ◌≤◌, true, cond, eqb, List, [], ◌∷◌, ◌++◌, map, length, take, drop, Some, None, Ok, Option, Result, sym, refl, ap, ◌∙◌, subst, ap₂, arith, length-append, length-drop, take-append-drop}
 use Rattle.std.proofs.lemmas.List.{take_at, drop_at, length-take-le, nil_from_length}
-use Rattle.std.proofs.lemmas.Bool.{cond-true, cond_both, eqb-true, eq-eqb}
+use Rattle.std.proofs.lemmas.Bool.{cond_both}
+use Rattle.std.proofs.lemmas.Bool.Decides.{nat_tests}
 use Rattle.message.specs.Blocks.{AreBytes}
 use Rattle.message.proofs.StandardHash.{small_append, small_take, small_drop}
 use Rattle.refusal.specs.declared.Refusal.{Refusal}
-use Rattle.refusal.specs.declared.Refusal.TheVariants.{WrongCheck, WrongNumber, WrongForm, WrongOrder}
 use Rattle.format.specs.Layout.{Content, check_of, block_bytes, laid}
 use Rattle.format.specs.Faults.{Previous, previous, number_in, kind_in, used_in, data_in, check_in, is_form_good, is_order_good, fault_of, on_fault, rows_of, blocks_of, scanned, data_of}
 use Rattle.format.proofs.BlockFields.{Fit, content_of, content_fits, block_again, kind_laid, number_laid, used_laid, front_laid, check_laid, form_laid, length_laid, content_laid}
@@ -19,31 +19,17 @@ pub record Faultless (k : ℕ) (p : Previous) (b : List ℕ) : Type 0 where
   pub form : is_form_good b ≡ true
   pub order : is_order_good p (kind_in b) ≡ true
 
--- a test before a refusal was passed
-pub passed : (t : Bool) (o : Option Refusal) (y : Refusal) → cond t o (Some y) ≡ None → (t ≡ true) × (o ≡ None)
-passed true o y e = (refl, e)
-passed false o y e = let z : ◌≡◌ {A = ℕ} 0 1 = cc in absurd (omega arith)
-
 -- no fault: every test was passed, and the other way round
 pub faultless : (k : ℕ) (p : Previous) (b : List ℕ) → fault_of k p b ≡ None → Faultless k p b
-faultless k p b e =
-    let one = passed (eqb (check_in b) (check_of (take 508 b))) _ (WrongCheck k) e in
-    let two = passed (eqb (number_in b) k) _ (WrongNumber k) one.1 in
-    let three = passed (is_form_good b) _ (WrongForm k) two.1 in
-    let four = passed (is_order_good p (kind_in b)) None (WrongOrder k) three.1 in
-    record {
-      check = eqb-true (check_in b) (check_of (take 508 b)) one.0;
-      number = eqb-true (number_in b) k two.0;
-      form = three.0;
-      order = four.0;
-    }
+faultless k p b e = record {
+  check = grind (arith, nat_tests);
+  number = grind (arith, nat_tests);
+  form = grind (arith, nat_tests);
+  order = grind (arith, nat_tests);
+}
 
 no_fault : (k : ℕ) (p : Previous) (b : List ℕ) → Faultless k p b → fault_of k p b ≡ None
-no_fault k p b f =
-    cond-true (eqb (check_in b) (check_of (take 508 b))) _ _ (eq-eqb (check_in b) (check_of (take 508 b)) f.check)
-    ∙ cond-true (eqb (number_in b) k) _ _ (eq-eqb (number_in b) k f.number)
-    ∙ cond-true (is_form_good b) _ _ f.form
-    ∙ cond-true (is_order_good p (kind_in b)) None (Some (WrongOrder k)) f.order
+no_fault k p b f = grind (arith, nat_tests, f.check, f.number, f.form, f.order)
 
 -- ---- what a scan without fault says of the blocks
 

@@ -8,7 +8,7 @@ use Rattle.format.specs.Verdict.{after}
 use Rattle.sealed.specs.Collecting.{brought, read_answer}
 use Rattle.sealed.specs.Reading.{Taken, wrong_at}
 use Rattle.sealed.specs.declared.record.Item.{Item}
-use Rattle.format.proofs.Scans.{passed}
+use Rattle.std.proofs.lemmas.Bool.Decides.{nat_tests}
 use Rattle.sealed.proofs.Places.{sized, wrong_block}
 use Rattle.sealed.proofs.Scans.{data_more, rows_more, scan_on}
 
@@ -86,7 +86,7 @@ module _ (file : List ℕ) (k : ℕ) (reached : Reached file k) where
   pub reach_more : wrong_at file k ≡ None → 512 * suc k ≤ length file → Reached file (suc k)
   reach_more right within =
       let n : ℕ = length file / 512 in
-      let good = (passed (is_size_good file) _ FileSize right).0 in
+      let good : is_size_good file ≡ true = grind (arith, nat_tests, right) in
       let none = sym (wrong_block file k good (omega (arith, within))) ∙ right in
       reached ∙ ap (scanned k (previous_at file k)) (rows_more n k file (omega (arith, within)))
       ∙ scan_on k (previous_at file k) (block_at file k) (rows_of (n - (k + 1)) (drop (512 * (k + 1)) file)) none

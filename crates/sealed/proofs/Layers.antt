@@ -1,15 +1,14 @@
 -- Blocks laid into an output, one after another.
-use Rattle.std.proofs.Common.{◌≡◌, ℕ, suc, ◌+◌, ◌-◌, ◌*◌, ◌/◌, ◌%◌, ◌<◌, ◌≤◌, min, leb, List, [], ◌∷◌, ◌++◌, map, length, take, drop, replicate, Ok, sym, ap, ◌∙◌, ap₂, append_assoc, append-nil, arith, length-append}
+use Rattle.std.proofs.Common.{◌≡◌, ℕ, suc, ◌+◌, ◌-◌, ◌*◌, ◌/◌, ◌%◌, ◌<◌, ◌≤◌, min, List, [], ◌∷◌, ◌++◌, map, length, take, drop, replicate, Ok, sym, ap, ◌∙◌, ap₂, append_assoc, append-nil, arith, length-append}
 use borrow.Rule.Slice.PartMut.{put_mid, same_len_mid}
 use Rattle.std.proofs.lemmas.List.{length-drop, length-take-le, length-replicate, length-map, drop-drop, take_all}
 use Rattle.std.proofs.lemmas.Slice.{take-put_mid}
-use Rattle.std.proofs.lemmas.Bool.{leb-true}
 use Rattle.message.proofs.Cutting.{next_of}
 use Rattle.format.proofs.Pieces.{length_pieces, pieces_more}
 use Rattle.format.specs.Layout.{Content, blocks_for, front, check_of, block_bytes, content, contents, laid, pieces}
 use Rattle.field.specs.Digits.{digits}
 use Rattle.sealed.specs.Writing.{room_answer}
-use Rattle.format.proofs.Laws.{taken}
+use Rattle.std.proofs.lemmas.Bool.Decides.{nat_tests}
 use Rattle.sealed.proofs.Numbers.{two_digits, four_digits}
 
 -- ---- one block
@@ -112,11 +111,8 @@ whole_laid header body tag n k upto-body upto-end =
 
 pub room_enough : (header body output n : ℕ) → Ok n ≡ room_answer header body output → 512 * blocks_for header body ≤ output
 room_enough header body output n done =
-    let short = taken (leb header 65535) _ _ _ (sym done) in
-    let few = taken (leb (blocks_for header body) 65536) _ _ _ short.1 in
-    leb-true (512 * blocks_for header body) output (taken (leb (512 * blocks_for header body) output) _ _ _ few.1).0
+    grind (arith, nat_tests, done)
 
 pub limits_kept : (header body output n : ℕ) → Ok n ≡ room_answer header body output → (header ≤ 65535) × (blocks_for header body ≤ 65536)
 limits_kept header body output n done =
-    let short = taken (leb header 65535) _ _ _ (sym done) in
-    (leb-true header 65535 short.0, leb-true (blocks_for header body) 65536 (taken (leb (blocks_for header body) 65536) _ _ _ short.1).0)
+    (grind (arith, nat_tests, done), grind (arith, nat_tests, done))

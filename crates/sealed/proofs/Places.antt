@@ -1,6 +1,6 @@
 -- The blocks of a file by their places, and what the tests on them tell.
 use Rattle.std.proofs.Common.{◌≡◌, ℕ, suc, ◌+◌, ◌-◌, ◌*◌, ◌%◌, ◌<◌, ◌≤◌, Bool, true, false, ◌&&◌, eqb, leb, List, length, take, drop, None, sym, refl, ap, ◌∙◌, arith}
-use Rattle.std.proofs.lemmas.Bool.{cond-true, cond-false, ne_eqb}
+use Rattle.std.proofs.lemmas.Bool.{ne_eqb}
 use Rattle.std.proofs.lemmas.Bool.Decides.{nat_tests}
 use Rattle.std.proofs.lemmas.List.{drop-take, length-drop, length-take-le}
 use Rattle.format.specs.Faults.{Previous, kind_in, used_in, is_used_fit, is_all_zero, is_form_good, is_size_good, block_at, previous_at, fault_of}
@@ -79,4 +79,4 @@ pub block_size : (file : List ℕ) (k : ℕ) → 512 * suc k ≤ length file →
 block_size file k within = length-take-le 512 (drop (512 * k) file) (omega (arith, length-drop (512 * k) file))
 
 pub wrong_block : (file : List ℕ) (k : ℕ) → is_size_good file ≡ true → 512 * k < length file → wrong_at file k ≡ fault_of k (previous_at file k) (block_at file k)
-wrong_block file k good some = cond-true _ _ _ good ∙ cond-false _ _ _ (ne_eqb (512 * k) (length file) (λ e. omega (arith, e)))
+wrong_block file k good some = grind (arith, nat_tests, good, some)

@@ -1,6 +1,7 @@
 -- The blocks of a file, one after another.
-use Rattle.std.proofs.Common.{◌≡◌, ℕ, zero, suc, ◌+◌, ◌-◌, ◌*◌, ◌/◌, ◌<◌, ◌≤◌, min, Bool, true, false, cond, eqb, List, [], ◌∷◌, ◌++◌, length, get_or, take, drop, take-append-drop, add-one, Some, None, Err, sym, refl, ap, ap₂, ◌∙◌, append_assoc, append-nil, zero-add, arith, length-append}
+use Rattle.std.proofs.Common.{◌≡◌, ℕ, zero, suc, ◌+◌, ◌-◌, ◌*◌, ◌/◌, ◌<◌, ◌≤◌, min, cond, eqb, List, [], ◌∷◌, ◌++◌, length, get_or, take, drop, take-append-drop, add-one, Some, None, Err, sym, refl, ap, ap₂, ◌∙◌, append_assoc, append-nil, zero-add, arith, length-append}
 use native.Mathlib.Decide.{dec_le}
+use Rattle.std.proofs.lemmas.Bool.Decides.{nat_tests}
 use Rattle.std.proofs.lemmas.List.{drop-drop, drop_more, take_more, length-drop, length-take, length-take-le, take_all}
 use Rattle.std.specs.Simd.{first_chunks}
 use Rattle.refusal.specs.declared.Refusal.{Refusal}
@@ -55,11 +56,7 @@ chunk_size file bs k d cut less =
 -- ---- data
 
 data_cons : (kind : ℕ) (b : List ℕ) (bs : List (List ℕ)) → data_of kind (b ∷ bs) ≡ data_of_kind kind b ++ data_of kind bs
-data_cons kind b bs = by_kind (eqb (kind_in b) kind)
-  where
-    by_kind : (t : Bool) → cond t (data_in b ++ data_of kind bs) (data_of kind bs) ≡ cond t (data_in b) [] ++ data_of kind bs
-    by_kind true = refl
-    by_kind false = refl
+data_cons kind b bs = grind (arith, nat_tests)
 
 pub data_append : (kind : ℕ) (cs bs : List (List ℕ)) → data_of kind (cs ++ bs) ≡ data_of kind cs ++ data_of kind bs
 data_append kind [] bs = refl
@@ -87,19 +84,13 @@ data_more kind k file =
     ∙ ap (λ (xs : List ℕ). data_of kind (rows_of k file) ++ xs) (data_cons kind (block_at file k) [] ∙ append-nil (data_of_kind kind (block_at file k)))
 
 pub data_length : (kind : ℕ) (b : List ℕ) → length b ≡ 512 → used_in b ≤ 502 → length (data_of_kind kind b) ≡ cond (eqb (kind_in b) kind) (used_in b) 0
-data_length kind b whole within = by_kind (eqb (kind_in b) kind)
-  where
-    by_kind : (t : Bool) → length (cond t (data_in b) []) ≡ cond t (used_in b) 0
-    by_kind true = length-take-le (used_in b) (drop 6 b) (omega (arith, length-drop 6 b, whole, within))
-    by_kind false = refl
+data_length kind b whole within =
+    let long : length (data_in b) ≡ used_in b = length-take-le (used_in b) (drop 6 b) (omega (arith, length-drop 6 b, whole, within)) in
+    grind (arith, nat_tests, long)
 
 data_short : (kind : ℕ) (xs : List ℕ) → length (data_of_kind kind (take 512 xs)) ≤ 512
-data_short kind xs = by_kind (eqb (kind_in (take 512 xs)) kind)
-  where
-    by_kind : (t : Bool) → length (cond t (data_in (take 512 xs)) []) ≤ 512
-    by_kind true =
-        omega (arith, length-take (used_in (take 512 xs)) (drop 6 (take 512 xs)), length-drop 6 (take 512 xs), length-take 512 xs)
-    by_kind false = omega arith
+data_short kind xs =
+    grind (arith, nat_tests, length-take (used_in (take 512 xs)) (drop 6 (take 512 xs)), length-drop 6 (take 512 xs), length-take 512 xs)
 
 pub data_within : (kind n : ℕ) (file : List ℕ) → length (data_of kind (rows_of n file)) ≤ 512 * n
 data_within kind zero file = omega arith
