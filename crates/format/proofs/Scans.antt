@@ -19,7 +19,7 @@ pub record Faultless (k : ℕ) (p : Previous) (b : List ℕ) : Type 0 where
   pub form : is_form_good b ≡ true
   pub order : is_order_good p (kind_in b) ≡ true
 
--- no fault: every test was passed, and the other way round
+-- no fault: every test was passed
 pub faultless : (k : ℕ) (p : Previous) (b : List ℕ) → fault_of k p b ≡ None → Faultless k p b
 faultless k p b e = record {
   check = grind (arith, nat_tests);
@@ -27,9 +27,6 @@ faultless k p b e = record {
   form = grind (arith, nat_tests);
   order = grind (arith, nat_tests);
 }
-
-no_fault : (k : ℕ) (p : Previous) (b : List ℕ) → Faultless k p b → fault_of k p b ≡ None
-no_fault k p b f = grind (arith, nat_tests, f.check, f.number, f.form, f.order)
 
 -- ---- what a scan without fault says of the blocks
 
@@ -94,13 +91,10 @@ rows_contents k p (c ∷ cs) f =
     ap₂ (λ (d : Content) (ds : List Content). d ∷ ds) (content_laid k c f.fit) (rows_contents (suc k) (shown c) cs f.rest)
 
 -- a block laid out in its place has no fault
-laid_faultless : (k : ℕ) (p : Previous) (c : Content) → Fit c → is_order_good p c.kind ≡ true → k < 65536 → Faultless k p (block_bytes k c)
-laid_faultless k p c fit order below = record {
-  check = check_laid k c fit ∙ sym (ap check_of (front_laid k c fit));
-  number = number_laid k c below;
-  form = form_laid k c fit;
-  order = ap (is_order_good p) (kind_laid k c) ∙ order;
-}
+laid_no_fault : (k : ℕ) (p : Previous) (c : Content) → Fit c → is_order_good p c.kind ≡ true → k < 65536 → fault_of k p (block_bytes k c) ≡ None
+laid_no_fault k p c fit order below =
+    let right : check_in (block_bytes k c) ≡ check_of (take 508 (block_bytes k c)) = check_laid k c fit ∙ sym (ap check_of (front_laid k c fit)) in
+    grind (arith, nat_tests, right, number_laid k c below, form_laid k c fit, kind_laid k c, order)
 
 -- a scan of contents in order meets no fault and ends at an end block
 pub rows_scanned : (k : ℕ) (p : Previous) (cs : List Content) → Follows p cs → k + length cs ≤ 65536
@@ -108,7 +102,7 @@ pub rows_scanned : (k : ℕ) (p : Previous) (cs : List Content) → Follows p cs
 rows_scanned k p [] f limit = (p, refl, f)
 rows_scanned k p (c ∷ cs) f limit =
     let rest = rows_scanned (suc k) (shown c) cs f.rest (omega arith) in
-    let none : fault_of k p (block_bytes k c) ≡ None = no_fault k p (block_bytes k c) (laid_faultless k p c f.fit f.order (omega arith)) in
+    let none : fault_of k p (block_bytes k c) ≡ None = laid_no_fault k p c f.fit f.order (omega arith) in
     let before : previous (block_bytes k c) ≡ shown c = λ i. record { kind = kind_laid k c i; used = used_laid k c f.fit i } in (
       rest.0,
       (λ i. on_fault (none i) (scanned (suc k) (before i) (block_rows (suc k) cs))) ∙ rest.1,

@@ -37,13 +37,8 @@ module _ (file : List ℕ) (k : ℕ) (reached : Reached file k) where
         ∙ by_end (eqb (previous_at file k).kind 3)
         ∙ ap (λ (o : Option Refusal). on_fault o (Ok tt)) (sym (cond-true _ _ _ (eq-eqb (512 * k) (length file) whole)))
 
-    by_size : (t : Bool) → cond t (after (scanned 0 first (blocks_of file)) last) (Err FileSize)
-        ≡ on_fault (cond t (cond (eqb (512 * k) (length file)) (cond (eqb (previous_at file k).kind 3) None (Some (NoEnd k))) (fault_of k (previous_at file k) (block_at file k))) (Some FileSize)) (Ok tt)
-    by_size true = ended
-    by_size false = refl
-
     pub answer_at_end : read_answer file ≡ on_fault (wrong_at file k) (Ok tt)
-    answer_at_end = by_size (is_size_good file)
+    answer_at_end = grind (arith, nat_tests, ended)
 
   -- before a block
   module _ (some : 512 * k < length file) where
