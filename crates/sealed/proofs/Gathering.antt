@@ -1,8 +1,8 @@
 -- A file read to its end, record by record.
-use Rattle.std.proofs.Common.{◌≡◌, ℕ, suc, ◌+◌, ◌-◌, ◌*◌, ◌/◌, ◌<◌, ◌≤◌, Bool, true, false, cond, eqb, List, [], ◌++◌, length, drop, Some, None, Ok, Err, Option, Result, sym, refl, ap, ◌∙◌, ap₂, inl, inr, add-one, arith}
-use Rattle.std.proofs.lemmas.Bool.{cases_lt, cond-true, cond-false, eq-eqb}
+use Rattle.std.proofs.Common.{◌≡◌, ℕ, suc, ◌+◌, ◌-◌, ◌*◌, ◌/◌, ◌<◌, ◌≤◌, true, cond, eqb, List, [], ◌++◌, length, drop, Some, None, Ok, Err, Option, Result, sym, refl, ap, ◌∙◌, ap₂, inl, inr, add-one, arith}
+use Rattle.std.proofs.lemmas.Bool.{cases_lt, cond-true, eq-eqb}
 use Rattle.refusal.specs.declared.Refusal.{Refusal}
-use Rattle.refusal.specs.declared.Refusal.TheVariants.{FileSize, NoEnd}
+use Rattle.refusal.specs.declared.Refusal.TheVariants.{NoEnd}
 use Rattle.format.specs.Faults.{Previous, first, previous, is_size_good, rows_of, block_at, previous_at, blocks_of, on_fault, fault_of, scanned, data_of}
 use Rattle.format.specs.Verdict.{after}
 use Rattle.sealed.specs.Collecting.{brought, read_answer}
@@ -25,16 +25,13 @@ module _ (file : List ℕ) (k : ℕ) (reached : Reached file k) where
 
   -- at the end of the file
   module _ (whole : 512 * k ≡ length file) where
-    by_end : (t : Bool) → cond {A = Answer} t (Ok tt) (Err (NoEnd (length file / 512))) ≡ on_fault (cond t None (Some (NoEnd k))) (Ok tt)
-    by_end true = refl
-    by_end false = let count : length file / 512 ≡ k = omega (arith, whole) in ap (λ (n : ℕ). Err (NoEnd n)) count
-
     ended : after (scanned 0 first (blocks_of file)) last ≡ on_fault (cond (eqb (512 * k) (length file)) (cond (eqb (previous_at file k).kind 3) None (Some (NoEnd k))) (fault_of k (previous_at file k) (block_at file k))) (Ok tt)
     unfolding blocks_of
     ended =
+        let count : length file / 512 ≡ k = omega (arith, whole) in
         let none : length file / 512 - k ≡ 0 = omega (arith, whole) in
         ap (λ (r : Result Previous Refusal). after r last) (reached ∙ ap (λ (n : ℕ). scanned k (previous_at file k) (rows_of n (drop (512 * k) file))) none)
-        ∙ by_end (eqb (previous_at file k).kind 3)
+        ∙ grind (arith, nat_tests, ap (λ (n : ℕ). NoEnd n) count)
         ∙ ap (λ (o : Option Refusal). on_fault o (Ok tt)) (sym (cond-true _ _ _ (eq-eqb (512 * k) (length file) whole)))
 
     pub answer_at_end : read_answer file ≡ on_fault (wrong_at file k) (Ok tt)
@@ -59,16 +56,8 @@ module _ (file : List ℕ) (k : ℕ) (reached : Reached file k) where
         ap (λ (x : Result Previous Refusal). after x last) here ∙ fault_stays o r
         ∙ sym (ap₂ (λ (w : Option Refusal) (x : Result Previous Refusal). on_fault w (after x last)) (wrong_block file k good some) here)
 
-    by_size' : (t : Bool) → is_size_good file ≡ t → read_answer file ≡ on_fault (wrong_at file k) (read_answer file)
-    by_size' true good =
-        let same = cond-true (is_size_good file) (after (scanned 0 first (blocks_of file)) last) (Err FileSize) good in
-        same ∙ met good ∙ ap (on_fault (wrong_at file k)) (sym same)
-    by_size' false bad =
-        let same = cond-false (is_size_good file) (after (scanned 0 first (blocks_of file)) last) (Err FileSize) bad in
-        same ∙ sym (ap (λ (o : Option Refusal). on_fault o (read_answer file)) (cond-false (is_size_good file) _ _ bad))
-
     answer_at_block : read_answer file ≡ on_fault (wrong_at file k) (read_answer file)
-    answer_at_block = by_size' (is_size_good file) refl
+    answer_at_block = grind (arith, nat_tests, met)
 
   -- what the reader refuses is what the file is refused for
   pub refused : (e : Refusal) → 512 * k ≤ length file → wrong_at file k ≡ Some e → read_answer file ≡ Err e
