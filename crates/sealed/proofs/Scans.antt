@@ -1,8 +1,7 @@
 -- The blocks of a file, one after another.
-use Rattle.std.proofs.Common.{◌≡◌, ℕ, zero, suc, ◌+◌, ◌-◌, ◌*◌, ◌/◌, ◌<◌, ◌≤◌, min, cond, eqb, List, [], ◌∷◌, ◌++◌, length, get_or, take, drop, take-append-drop, add-one, Some, None, Err, sym, refl, ap, ap₂, ◌∙◌, append_assoc, append-nil, zero-add, arith, length-append}
-use native.Mathlib.Decide.{dec_le}
+use Rattle.std.proofs.Common.{◌≡◌, ℕ, zero, suc, ◌+◌, ◌-◌, ◌*◌, ◌/◌, ◌<◌, ◌≤◌, cond, eqb, List, [], ◌∷◌, ◌++◌, length, get_or, take, drop, take-append-drop, add-one, Some, None, Err, sym, refl, ap, ap₂, ◌∙◌, append_assoc, append-nil, zero-add, arith, length-append}
 use Rattle.std.proofs.lemmas.Bool.Decides.{nat_tests}
-use Rattle.std.proofs.lemmas.List.{drop-drop, drop_more, take_more, length-drop, length-take, length-take-le, take_all}
+use Rattle.std.proofs.lemmas.List.{drop-drop, drop_more, take_more, length-drop, length-take, length-take-le}
 use Rattle.std.specs.Simd.{first_chunks}
 use Rattle.refusal.specs.declared.Refusal.{Refusal}
 use Rattle.format.specs.Faults.{Previous, previous, kind_in, used_in, data_in, rows_of, block_at, blocks_of, on_fault, fault_of, scanned, data_of}
@@ -123,14 +122,6 @@ data_in_file kind file = omega (arith, data_within kind (length file / 512) file
 pub data_at_end : (kind k : ℕ) (file : List ℕ) → k ≡ length file / 512 → data_of kind (rows_of k file) ≡ data_of kind (blocks_of file)
 unfolding blocks_of
 data_at_end kind k file end = ap (λ (j : ℕ). data_of kind (rows_of j file)) end
-
--- the data of a block, up to a length that may lie past the block
-pub take_min : (n k : ℕ) (b : List ℕ) → k ≡ min n 506 → length b ≡ 512 → take (6 + k - 6) (drop 6 b) ≡ take n (drop 6 b)
-take_min n k b least whole =
-    elim (dec_le n 506) [
-      | yes h ↦ let e : 6 + k - 6 ≡ n = omega (arith, least) in ap (λ (j : ℕ). take j (drop 6 b)) e
-      | no h ↦ take_all (6 + k - 6) (drop 6 b) (omega (arith, least, length-drop 6 b)) ∙ sym (take_all n (drop 6 b) (omega (arith, length-drop 6 b)))
-    ]
 
 -- ---- scanning
 

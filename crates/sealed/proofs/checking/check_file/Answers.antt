@@ -26,11 +26,6 @@ returns-in-Err g c =
       engine = untouched m c.args.engine c.args.engine file c.in-Err.refusal c.in-Err.ensures;
     }
 
-pub hash_file-engine-requires : goal.hash_file-engine-requires
-hash_file-engine-requires g c =
-    let pass = (passed c.args.file.now c.in-Ok.lengths c.in-Ok.ensures).0 in
-    record { size = pass.size; short = pass.short }
-
 pub returns : goal.returns
 returns g c =
     let m = g.E.Engine in
