@@ -1,8 +1,7 @@
 -- One block: what its fields say, and that a block without fault is laid out from its content.
-use Rattle.std.proofs.Common.{◌≡◌, ℕ, ◌+◌, ◌-◌, ◌^◌, ◌<◌, ◌≤◌, true, ◌&&◌, eqb, leb, List, [], ◌∷◌, ◌++◌, map, length, get_or, take, drop, replicate, sym, refl, ap, ◌∙◌, subst, ap₂, append_assoc, mod-eq_of_lt, arith, lit<, length-append, length-drop, take-append-drop}
+use Rattle.std.proofs.Common.{◌≡◌, ℕ, ◌+◌, ◌-◌, ◌^◌, ◌<◌, ◌≤◌, true, List, [], ◌∷◌, ◌++◌, map, length, get_or, take, drop, replicate, sym, refl, ap, ◌∙◌, subst, ap₂, append_assoc, mod-eq_of_lt, arith, lit<, length-append, length-drop, take-append-drop}
 use lib.ListN.{length-replicate}
 use Rattle.std.proofs.lemmas.List.{take_at, drop_at, take-take, drop-take, drop-drop, length-take-le}
-use Rattle.std.proofs.lemmas.Bool.{and_parts, and_from, eqb-true, eq-eqb, leb-true, le-leb}
 use Rattle.std.proofs.lemmas.Bool.Decides.{nat_tests}
 use Rattle.field.specs.Digits.{numeral, digits}
 use Rattle.field.specs.Evaluation.{eval}
@@ -32,33 +31,21 @@ pub used_limit : (kind used : ℕ) → is_used_fit kind used ≡ true → used �
 used_limit kind used e = grind (arith, nat_tests)
 
 -- what the form of a block asks, part by part
-record Form (b : List ℕ) : Type 0 where
-  low : 1 ≤ kind_in b
-  high : kind_in b ≤ 3
-  reserve : reserve_in b ≡ 0
-  used : is_used_fit (kind_in b) (used_in b) ≡ true
-  zeros : is_all_zero (fill_in b) ≡ true
+pub record Form (b : List ℕ) : Type 0 where
+  pub low : 1 ≤ kind_in b
+  pub high : kind_in b ≤ 3
+  pub reserve : reserve_in b ≡ 0
+  pub used : is_used_fit (kind_in b) (used_in b) ≡ true
+  pub zeros : is_all_zero (fill_in b) ≡ true
 
-form_from : (b : List ℕ) → Form b → is_form_good b ≡ true
-form_from b f =
-    and_from (leb 1 (kind_in b)) _ (le-leb 1 (kind_in b) f.low)
-    (and_from (leb (kind_in b) 3) _ (le-leb (kind_in b) 3 f.high)
-    (and_from (eqb (reserve_in b) 0) _ (eq-eqb (reserve_in b) 0 f.reserve)
-    (and_from (is_used_fit (kind_in b) (used_in b)) (is_all_zero (fill_in b)) f.used f.zeros)))
-
-form_parts : (b : List ℕ) → is_form_good b ≡ true → Form b
-form_parts b e =
-    let one = and_parts (leb 1 (kind_in b)) (leb (kind_in b) 3 && (eqb (reserve_in b) 0 && (is_used_fit (kind_in b) (used_in b) && is_all_zero (fill_in b)))) e in
-    let two = and_parts (leb (kind_in b) 3) (eqb (reserve_in b) 0 && (is_used_fit (kind_in b) (used_in b) && is_all_zero (fill_in b))) one.1 in
-    let three = and_parts (eqb (reserve_in b) 0) (is_used_fit (kind_in b) (used_in b) && is_all_zero (fill_in b)) two.1 in
-    let four = and_parts (is_used_fit (kind_in b) (used_in b)) (is_all_zero (fill_in b)) three.1 in
-    record {
-      low = leb-true 1 (kind_in b) one.0;
-      high = leb-true (kind_in b) 3 two.0;
-      reserve = eqb-true (reserve_in b) 0 three.0;
-      used = four.0;
-      zeros = four.1;
-    }
+pub form_parts : (b : List ℕ) → is_form_good b ≡ true → Form b
+form_parts b e = record {
+  low = grind (arith, nat_tests);
+  high = grind (arith, nat_tests);
+  reserve = grind (arith, nat_tests);
+  used = grind (arith, nat_tests);
+  zeros = grind (arith, nat_tests);
+}
 
 -- the check fits in four bytes
 check_below : (bytes : List ℕ) → check_of bytes < 256 ^ 4
@@ -100,26 +87,30 @@ module _ (n : ℕ) (c : Content) where
   unfolding front digits
   number_laid below = pair_number n below
 
+  module _ (limit : length c.bytes ≤ 502) where
+    -- number, kind, reserve, used length, data and zeros take 508 bytes
+    length_front : length (front n c) ≡ 508
+    unfolding front digits
+    length_front = simp (length-append, length-replicate) (omega arith)
+
+    pub length_block : length (block_bytes n c) ≡ 512
+    length_block =
+        length-append (front n c) (digits 256 4 (check_of (front n c)))
+        ∙ ap₂ (λ (x y : ℕ). x + y) length_front (length_digits 256 4 (check_of (front n c)))
+
   module _ (fit : Fit c) where
     limit : length c.bytes ≤ 502
     limit = used_limit c.kind (length c.bytes) fit.used
 
-    -- number, kind, reserve, used length, data and zeros take 508 bytes
-    length_front : length (front n c) ≡ 508
-    unfolding front digits
-    length_front = let l = limit in simp (length-append, length-replicate) (omega arith)
-
     pub length_laid : length (block_bytes n c) ≡ 512
-    length_laid =
-        length-append (front n c) (digits 256 4 (check_of (front n c)))
-        ∙ ap₂ (λ (x y : ℕ). x + y) length_front (length_digits 256 4 (check_of (front n c)))
+    length_laid = length_block limit
 
     pub front_laid : take 508 (block_bytes n c) ≡ front n c
-    front_laid = take_at (front n c) (digits 256 4 (check_of (front n c))) 508 length_front
+    front_laid = take_at (front n c) (digits 256 4 (check_of (front n c))) 508 (length_front limit)
 
     pub check_laid : check_in (block_bytes n c) ≡ check_of (front n c)
     check_laid =
-        ap (numeral 256) (drop_at (front n c) (digits 256 4 (check_of (front n c))) 508 length_front)
+        ap (numeral 256) (drop_at (front n c) (digits 256 4 (check_of (front n c))) 508 (length_front limit))
         ∙ numeral_digits 256 (lit< tt) 4 (check_of (front n c))
         ∙ mod-eq_of_lt (check_below (front n c))
 
@@ -147,14 +138,7 @@ module _ (n : ℕ) (c : Content) where
     content_laid = ap₂ content kind_laid data_laid
 
     pub form_laid : is_form_good (block_bytes n c) ≡ true
-    form_laid =
-        form_from (block_bytes n c) record {
-          low = subst (λ (k : ℕ). 1 ≤ k) (sym kind_laid) fit.low;
-          high = subst (λ (k : ℕ). k ≤ 3) (sym kind_laid) fit.high;
-          reserve = reserve_laid;
-          used = ap₂ is_used_fit kind_laid used_laid ∙ fit.used;
-          zeros = fill_laid;
-        }
+    form_laid = grind (arith, nat_tests, fit.low, fit.high, reserve_laid, kind_laid, used_laid, fit.used, fill_laid)
 
 -- ---- a block whose check, number and form are right
 

@@ -1,6 +1,6 @@
 -- The check accepts sealed files and no others.
-use Rattle.std.proofs.Common.{◌≡◌, ℕ, ◌+◌, ◌*◌, ◌/◌, ◌%◌, ◌≤◌, Bool, true, false, cond, ◌&&◌, eqb, leb, List, map, length, Ok, Err, Result, sym, refl, ap, ◌∙◌, subst, ap₂, mod-eq_of_lt, arith, lit<}
-use Rattle.std.proofs.lemmas.Bool.{and_parts, and_from, cond-true, eqb-true, eq-eqb, leb-true, le-leb}
+use Rattle.std.proofs.Common.{◌≡◌, ℕ, ◌+◌, ◌*◌, ◌/◌, ◌%◌, ◌≤◌, true, cond, eqb, leb, List, map, length, Ok, Err, Result, sym, refl, ap, ◌∙◌, subst, ap₂, mod-eq_of_lt, arith, lit<}
+use Rattle.std.proofs.lemmas.Bool.Decides.{nat_tests}
 use Rattle.field.specs.Bytes.{bytes_of}
 use Rattle.field.specs.Digits.{numeral, digits}
 use Rattle.field.specs.declared.kinds.Block.{Block}
@@ -9,7 +9,7 @@ use Rattle.message.specs.Limits.{header_limit}
 use Rattle.message.specs.Blocks.{AreBytes}
 use Rattle.message.specs.Hash.{tag_of}
 use Rattle.refusal.specs.declared.Refusal.{Refusal}
-use Rattle.refusal.specs.declared.Refusal.TheVariants.{HeaderTooLong, TagDiffers, FileSize, NoEnd}
+use Rattle.refusal.specs.declared.Refusal.TheVariants.{HeaderTooLong, FileSize, NoEnd}
 use Rattle.format.specs.Layout.{Content, contents, laid, sealed, blocks_for}
 use Rattle.format.specs.Faults.{Previous, first, rows_of, blocks_of, is_size_good, scanned, data_of, header_in, body_in, tag_in}
 use Rattle.format.specs.Verdict.{after, tag_verdict, verdict, Exact, Reopens}
@@ -67,12 +67,13 @@ module _ (subkey pad : Block) (header body : List ℕ) where
 abbrev ok : ℕ → ℕ → Result Lengths Refusal
 ok header body = Ok record { header = header; body = body }
 
--- what is answered after a scan without fault
-abbrev ending : Block → Block → List ℕ → Previous → Result Lengths Refusal
-ending subkey pad file last =
-    cond (eqb last.kind 3)
-    (cond (leb (length (header_in file)) header_limit) (tag_verdict subkey pad file) (Err HeaderTooLong))
-    (Err (NoEnd (length file / 512)))
+-- the tests before the tag is looked at, and an answer past them: after a scan without fault, and in all
+abbrev pub ending : List ℕ → Result Lengths Refusal → Previous → Result Lengths Refusal
+ending file answer last =
+    cond (eqb last.kind 3) (cond (leb (length (header_in file)) header_limit) answer (Err HeaderTooLong)) (Err (NoEnd (length file / 512)))
+
+abbrev pub tested : List ℕ → Result Lengths Refusal → Result Lengths Refusal
+tested file answer = cond (is_size_good file) (after (scanned 0 first (blocks_of file)) (ending file answer)) (Err FileSize)
 
 module _ (subkey pad : Block) (header body : List ℕ) where
   -- the tag read out of it is the tag of the parts read out of it
@@ -85,9 +86,7 @@ module _ (subkey pad : Block) (header body : List ℕ) where
       ∙ numeral_digits 256 (lit< tt) 16 t.bits
       ∙ mod-eq_of_lt t.fits
       ∙ sym (ap₂ (λ (h b : List ℕ). (tag_of subkey pad h b).bits) (sealed_header subkey pad header body) (sealed_body subkey pad header body)) in
-      cond-true (eqb (numeral 256 (tag_in file)) (tag_of subkey pad (header_in file) (body_in file)).bits)
-      (ok (length (header_in file)) (length (body_in file))) (Err TagDiffers)
-      (eq-eqb (numeral 256 (tag_in file)) (tag_of subkey pad (header_in file) (body_in file)).bits right)
+      grind (arith, nat_tests, right)
       ∙ ap₂ (λ (h b : List ℕ). ok (length h) (length b)) (sealed_header subkey pad header body) (sealed_body subkey pad header body)
 
   module _ (short : length header ≤ 65535) (count : blocks_for (length header) (length body) ≤ 65536) where
@@ -95,8 +94,7 @@ module _ (subkey pad : Block) (header body : List ℕ) where
     size_sealed =
         let n : ℕ = length (sealed subkey pad header body) in
         let long : n ≡ 512 * blocks_for (length header) (length body) = length_sealed subkey pad header body in
-        and_from (eqb (n % 512) 0) (leb 512 n && leb n 33554432) (eq-eqb (n % 512) 0 (omega arith))
-        (and_from (leb 512 n) (leb n 33554432) (le-leb 512 n (omega arith)) (le-leb n 33554432 (omega arith)))
+        grind (arith, nat_tests)
 
     -- the check accepts it, and tells how long its parts are
     pub sealed_accepted : verdict subkey pad (sealed subkey pad header body) ≡ Ok record { header = length header; body = length body }
@@ -106,52 +104,52 @@ module _ (subkey pad : Block) (header body : List ℕ) where
         let few : 0 + length cs ≤ 65536 = omega (arith, length_contents header body (tag subkey pad header body)) in
         let scan = rows_scanned 0 first cs (carried_follow subkey pad header body) few in
         let within : length (header_in file) ≤ header_limit = subst (λ (h : List ℕ). length h ≤ 65535) (sym (sealed_header subkey pad header body)) short in
-        cond-true (is_size_good file) (after (scanned 0 first (blocks_of file)) (ending subkey pad file)) (Err FileSize) size_sealed
-        ∙ ap (λ (r : Result Previous Refusal). after r (ending subkey pad file)) (ap (scanned 0 first) (blocks_sealed subkey pad header body) ∙ scan.1)
-        ∙ cond-true (eqb scan.0.kind 3) (cond (leb (length (header_in file)) header_limit) (tag_verdict subkey pad file) (Err HeaderTooLong))
-        (Err (NoEnd (length file / 512))) (eq-eqb scan.0.kind 3 scan.2)
-        ∙ cond-true (leb (length (header_in file)) header_limit) (tag_verdict subkey pad file) (Err HeaderTooLong) (le-leb (length (header_in file)) header_limit within)
-        ∙ tag_sealed
+        let blocks : scanned 0 first (blocks_of file) ≡ Ok scan.0 = ap (scanned 0 first) (blocks_sealed subkey pad header body) ∙ scan.1 in
+        grind (arith, nat_tests, size_sealed, blocks, scan.2, within, tag_sealed)
 
 -- ---- an accepted file is sealed
-
--- a test before a refusal was passed
-taken : {T : Type 0} (t : Bool) (r : Result T Refusal) (y : Refusal) (x : T) → cond t r (Err y) ≡ Ok x → (t ≡ true) × (r ≡ Ok x)
-taken true r y x e = (refl, e)
-taken false r y x e = let z : ◌≡◌ {A = ℕ} 0 1 = cc in absurd (omega arith)
 
 -- a step before another ended well
 came : {T U : Type 0} (r : Result T Refusal) (f : T → Result U Refusal) (x : U) → after r f ≡ Ok x → (z : T) × (r ≡ Ok z) × (f z ≡ Ok x)
 came (Ok z) f x e = (z, refl, e)
 came (Err y) f x e = let z : ◌≡◌ {A = ℕ} 0 1 = cc in absurd (omega arith)
 
--- what the check found of a file that it accepts
-pub record Accepted (subkey pad : Block) (file : List ℕ) (lens : Lengths) : Type 0 where
+-- what the tests before the tag found of a file that they let through
+pub record Passed (file : List ℕ) : Type 0 where
   pub size : is_size_good file ≡ true
   pub last : Previous
   pub scan : scanned 0 first (blocks_of file) ≡ Ok last
   pub end : last.kind ≡ 3
-  pub limit : length (header_in file) ≤ 65535
+  pub short : length (header_in file) ≤ 65535
+
+pub passed_tests : (file : List ℕ) (answer : Result Lengths Refusal) (lens : Lengths) → tested file answer ≡ Ok lens → Passed file × (answer ≡ Ok lens)
+passed_tests file answer lens e =
+    let two = came (scanned 0 first (blocks_of file)) (ending file answer) lens (grind (arith, nat_tests, e)) in (
+      record {
+        size = grind (arith, nat_tests, e);
+        last = two.0;
+        scan = two.1;
+        end = grind (arith, nat_tests, two.2);
+        short = grind (arith, nat_tests, two.2);
+      },
+      grind (arith, nat_tests, two.2),
+    )
+
+-- what the check found of a file that it accepts
+record Accepted (subkey pad : Block) (file : List ℕ) (lens : Lengths) : Type 0 where
+  pub pass : Passed file
   pub tagged : numeral 256 (tag_in file) ≡ (tag_of subkey pad (header_in file) (body_in file)).bits
   pub header : lens.header ≡ length (header_in file)
   pub body : lens.body ≡ length (body_in file)
 
-pub accepted_parts : (subkey pad : Block) (file : List ℕ) (lens : Lengths) → verdict subkey pad file ≡ Ok lens → Accepted subkey pad file lens
+accepted_parts : (subkey pad : Block) (file : List ℕ) (lens : Lengths) → verdict subkey pad file ≡ Ok lens → Accepted subkey pad file lens
 accepted_parts subkey pad file lens e =
-    let one = taken (is_size_good file) (after (scanned 0 first (blocks_of file)) (ending subkey pad file)) FileSize lens e in
-    let two = came (scanned 0 first (blocks_of file)) (ending subkey pad file) lens one.1 in
-    let three = taken (eqb two.0.kind 3) (cond (leb (length (header_in file)) header_limit) (tag_verdict subkey pad file) (Err HeaderTooLong)) (NoEnd (length file / 512)) lens two.2 in
-    let four = taken (leb (length (header_in file)) header_limit) (tag_verdict subkey pad file) HeaderTooLong lens three.1 in
-    let five = taken (eqb (numeral 256 (tag_in file)) (tag_of subkey pad (header_in file) (body_in file)).bits) (ok (length (header_in file)) (length (body_in file))) TagDiffers lens four.1 in
-    let told : ok (length (header_in file)) (length (body_in file)) ≡ Ok lens = five.1 in
+    let through = passed_tests file (tag_verdict subkey pad file) lens e in
+    let told : ok (length (header_in file)) (length (body_in file)) ≡ Ok lens = grind (arith, nat_tests, through.1) in
     let same : lens ≡ record { header = length (header_in file); body = length (body_in file) } = cc in
     record {
-      size = one.0;
-      last = two.0;
-      scan = two.1;
-      end = eqb-true two.0.kind 3 three.0;
-      limit = leb-true (length (header_in file)) 65535 four.0;
-      tagged = eqb-true (numeral 256 (tag_in file)) (tag_of subkey pad (header_in file) (body_in file)).bits five.0;
+      pass = through.0;
+      tagged = grind (arith, nat_tests, through.1);
       header = ap (λ (l : Lengths). l.header) same;
       body = ap (λ (l : Lengths). l.body) same;
     }
@@ -163,8 +161,8 @@ unfolding blocks_of sealed
 accepted_sealed subkey pad file lens small e =
     let a : Accepted subkey pad file lens = accepted_parts subkey pad file lens e in
     let m : ℕ = length file / 512 in
-    let whole : length file % 512 ≡ 0 = eqb-true (length file % 512) 0 (and_parts (eqb (length file % 512) 0) (leb 512 (length file) && leb (length file) 33554432) a.size).0 in
-    let found = scanned_laid m 0 first a.last file (omega arith) small a.scan a.end in
+    let whole : length file % 512 ≡ 0 = grind (arith, nat_tests, a.pass.size) in
+    let found = scanned_laid m 0 first a.pass.last file (omega arith) small a.pass.scan a.pass.end in
     let cs : List Content = map content_of (rows_of m file) in
     let ordered : Whole cs = in_order first cs found.1 (omega arith) in
     let part : (kind : ℕ) → part_of kind cs ≡ data_of kind (rows_of m file) = λ kind. sym (data_part kind (rows_of m file)) in

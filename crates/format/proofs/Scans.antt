@@ -1,11 +1,11 @@
 -- A scan without fault, and the contents of its blocks.
-use Rattle.std.proofs.Common.{◌≡◌, ℕ, zero, suc, ◌+◌, ◌*◌, ◌/◌, ◌<◌, ◌≤◌, Bool, true, false, cond, eqb, List, [], ◌∷◌, ◌++◌, map, length, take, drop, Some, None, Ok, Option, Result, sym, refl, ap, ◌∙◌, subst, ap₂, arith, length-append, length-drop, take-append-drop}
+use Rattle.std.proofs.Common.{◌≡◌, ℕ, zero, suc, ◌+◌, ◌*◌, ◌/◌, ◌<◌, ◌≤◌, true, cond, eqb, List, [], ◌∷◌, ◌++◌, map, length, take, drop, Some, None, Ok, Option, Result, sym, refl, ap, ◌∙◌, subst, ap₂, arith, length-append, length-drop, take-append-drop}
 use Rattle.std.proofs.lemmas.List.{take_at, drop_at, length-take-le, nil_from_length}
-use Rattle.std.proofs.lemmas.Bool.{cond-true, cond_both, eqb-true, eq-eqb}
+use Rattle.std.proofs.lemmas.Bool.{cond_both}
+use Rattle.std.proofs.lemmas.Bool.Decides.{nat_tests}
 use Rattle.message.specs.Blocks.{AreBytes}
 use Rattle.message.proofs.StandardHash.{small_append, small_take, small_drop}
 use Rattle.refusal.specs.declared.Refusal.{Refusal}
-use Rattle.refusal.specs.declared.Refusal.TheVariants.{WrongCheck, WrongNumber, WrongForm, WrongOrder}
 use Rattle.format.specs.Layout.{Content, check_of, block_bytes, laid}
 use Rattle.format.specs.Faults.{Previous, previous, number_in, kind_in, used_in, data_in, check_in, is_form_good, is_order_good, fault_of, on_fault, rows_of, blocks_of, scanned, data_of}
 use Rattle.format.proofs.BlockFields.{Fit, content_of, content_fits, block_again, kind_laid, number_laid, used_laid, front_laid, check_laid, form_laid, length_laid, content_laid}
@@ -13,42 +13,25 @@ use Rattle.format.proofs.Sequences.{shown, Follows, part_of}
 
 -- ---- a block without fault
 
-record Faultless (k : ℕ) (p : Previous) (b : List ℕ) : Type 0 where
-  check : check_in b ≡ check_of (take 508 b)
-  number : number_in b ≡ k
-  form : is_form_good b ≡ true
-  order : is_order_good p (kind_in b) ≡ true
+pub record Faultless (k : ℕ) (p : Previous) (b : List ℕ) : Type 0 where
+  pub check : check_in b ≡ check_of (take 508 b)
+  pub number : number_in b ≡ k
+  pub form : is_form_good b ≡ true
+  pub order : is_order_good p (kind_in b) ≡ true
 
--- a test before a refusal was passed
-passed : (t : Bool) (o : Option Refusal) (y : Refusal) → cond t o (Some y) ≡ None → (t ≡ true) × (o ≡ None)
-passed true o y e = (refl, e)
-passed false o y e = let z : ◌≡◌ {A = ℕ} 0 1 = cc in absurd (omega arith)
-
--- no fault: every test was passed, and the other way round
-faultless : (k : ℕ) (p : Previous) (b : List ℕ) → fault_of k p b ≡ None → Faultless k p b
-faultless k p b e =
-    let one = passed (eqb (check_in b) (check_of (take 508 b))) _ (WrongCheck k) e in
-    let two = passed (eqb (number_in b) k) _ (WrongNumber k) one.1 in
-    let three = passed (is_form_good b) _ (WrongForm k) two.1 in
-    let four = passed (is_order_good p (kind_in b)) None (WrongOrder k) three.1 in
-    record {
-      check = eqb-true (check_in b) (check_of (take 508 b)) one.0;
-      number = eqb-true (number_in b) k two.0;
-      form = three.0;
-      order = four.0;
-    }
-
-no_fault : (k : ℕ) (p : Previous) (b : List ℕ) → Faultless k p b → fault_of k p b ≡ None
-no_fault k p b f =
-    cond-true (eqb (check_in b) (check_of (take 508 b))) _ _ (eq-eqb (check_in b) (check_of (take 508 b)) f.check)
-    ∙ cond-true (eqb (number_in b) k) _ _ (eq-eqb (number_in b) k f.number)
-    ∙ cond-true (is_form_good b) _ _ f.form
-    ∙ cond-true (is_order_good p (kind_in b)) None (Some (WrongOrder k)) f.order
+-- no fault: every test was passed
+pub faultless : (k : ℕ) (p : Previous) (b : List ℕ) → fault_of k p b ≡ None → Faultless k p b
+faultless k p b e = record {
+  check = grind (arith, nat_tests);
+  number = grind (arith, nat_tests);
+  form = grind (arith, nat_tests);
+  order = grind (arith, nat_tests);
+}
 
 -- ---- what a scan without fault says of the blocks
 
 -- a scan that ends well met no fault and went on
-went_on : {T : Type 0} (o : Option Refusal) (r : Result T Refusal) (x : T) → on_fault o r ≡ Ok x → (o ≡ None) × (r ≡ Ok x)
+pub went_on : {T : Type 0} (o : Option Refusal) (r : Result T Refusal) (x : T) → on_fault o r ≡ Ok x → (o ≡ None) × (r ≡ Ok x)
 went_on None r x e = (refl, e)
 went_on (Some y) r x e = let z : ◌≡◌ {A = ℕ} 0 1 = cc in absurd (omega arith)
 
@@ -108,13 +91,10 @@ rows_contents k p (c ∷ cs) f =
     ap₂ (λ (d : Content) (ds : List Content). d ∷ ds) (content_laid k c f.fit) (rows_contents (suc k) (shown c) cs f.rest)
 
 -- a block laid out in its place has no fault
-laid_faultless : (k : ℕ) (p : Previous) (c : Content) → Fit c → is_order_good p c.kind ≡ true → k < 65536 → Faultless k p (block_bytes k c)
-laid_faultless k p c fit order below = record {
-  check = check_laid k c fit ∙ sym (ap check_of (front_laid k c fit));
-  number = number_laid k c below;
-  form = form_laid k c fit;
-  order = ap (is_order_good p) (kind_laid k c) ∙ order;
-}
+laid_no_fault : (k : ℕ) (p : Previous) (c : Content) → Fit c → is_order_good p c.kind ≡ true → k < 65536 → fault_of k p (block_bytes k c) ≡ None
+laid_no_fault k p c fit order below =
+    let right : check_in (block_bytes k c) ≡ check_of (take 508 (block_bytes k c)) = check_laid k c fit ∙ sym (ap check_of (front_laid k c fit)) in
+    grind (arith, nat_tests, right, number_laid k c below, form_laid k c fit, kind_laid k c, order)
 
 -- a scan of contents in order meets no fault and ends at an end block
 pub rows_scanned : (k : ℕ) (p : Previous) (cs : List Content) → Follows p cs → k + length cs ≤ 65536
@@ -122,7 +102,7 @@ pub rows_scanned : (k : ℕ) (p : Previous) (cs : List Content) → Follows p cs
 rows_scanned k p [] f limit = (p, refl, f)
 rows_scanned k p (c ∷ cs) f limit =
     let rest = rows_scanned (suc k) (shown c) cs f.rest (omega arith) in
-    let none : fault_of k p (block_bytes k c) ≡ None = no_fault k p (block_bytes k c) (laid_faultless k p c f.fit f.order (omega arith)) in
+    let none : fault_of k p (block_bytes k c) ≡ None = laid_no_fault k p c f.fit f.order (omega arith) in
     let before : previous (block_bytes k c) ≡ shown c = λ i. record { kind = kind_laid k c i; used = used_laid k c f.fit i } in (
       rest.0,
       (λ i. on_fault (none i) (scanned (suc k) (before i) (block_rows (suc k) cs))) ∙ rest.1,

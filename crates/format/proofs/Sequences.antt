@@ -2,7 +2,7 @@
 use Rattle.std.proofs.Common.{◌≡◌, ℕ, zero, suc, ◌-◌, ◌<◌, ◌≤◌, min, true, false, cond, eqb, List, [], ◌∷◌, ◌++◌, map, length, take, drop, sym, refl, ap, ◌∙◌, subst, ap₂, inl, inr, append_assoc, append-nil, arith, length-append, length-drop, length-take}
 use native.Mathlib.Decide.{dec_le}
 use lib.ListN.{length-map}
-use Rattle.std.proofs.lemmas.Bool.{cond-true, cond-false, ne_eqb, eq-eqb, eqb-true}
+use Rattle.std.proofs.lemmas.Bool.{eq-eqb, eqb-true}
 use Rattle.std.proofs.lemmas.Bool.Decides.{nat_tests}
 use Rattle.format.specs.Layout.{Content, content, contents, cut_pieces, pieces, blocks_for}
 use Rattle.format.specs.Faults.{Previous, first, is_order_good, is_used_fit}
@@ -32,7 +32,7 @@ part_of kind (c ∷ cs) = cond (eqb c.kind kind) (c.bytes ++ part_of kind cs) (p
 -- ---- contents in order are those of a header, a body and a tag
 
 -- nothing may stand after the end
-not_past_end : (p : Previous) (kind : ℕ) → is_order_good p kind ≡ true → p.kind ≡ 3 → ⊥
+pub not_past_end : (p : Previous) (kind : ℕ) → is_order_good p kind ≡ true → p.kind ≡ 3 → ⊥
 not_past_end p kind e end = grind (arith, nat_tests)
 
 -- kinds do not fall
@@ -48,18 +48,14 @@ none_later : (kind : ℕ) (p : Previous) (cs : List Content) → Follows p cs �
 none_later kind p [] f later = refl
 none_later kind p (c ∷ cs) f later =
     let up : p.kind ≤ c.kind = rising p c.kind f.order in
-    let other : eqb c.kind kind ≡ false = ne_eqb c.kind kind (λ e. omega arith) in
-    cond-false (eqb c.kind kind) (c.bytes ++ part_of kind cs) (part_of kind cs) other
-    ∙ none_later kind (shown c) cs f.rest (omega arith)
+    grind (arith, nat_tests, up, none_later kind (shown c) cs f.rest)
 
 -- nothing of p's kind comes after p unless p is full
 none_short : (p : Previous) (cs : List Content) → Follows p cs → p.used < 502 → part_of p.kind cs ≡ []
 none_short p [] f short = refl
 none_short p (c ∷ cs) f short =
     let up : p.kind ≤ c.kind = rising p c.kind f.order in
-    let apart : c.kind ≡ p.kind → ⊥ = λ e. let full : 502 ≤ p.used = full_before p c.kind f.order (sym e) in omega arith in
-    cond-false (eqb c.kind p.kind) (c.bytes ++ part_of p.kind cs) (part_of p.kind cs) (ne_eqb c.kind p.kind apart)
-    ∙ none_later p.kind (shown c) cs f.rest (omega (arith, apart))
+    grind (arith, nat_tests, up, full_before p c.kind f.order, none_later p.kind (shown c) cs f.rest)
 
 -- nothing comes after an end
 none_after : (p : Previous) (cs : List Content) → Follows p cs → p.kind ≡ 3 → cs ≡ []
@@ -175,15 +171,12 @@ contents_follow header body tag sixteen =
 part_same : (kind : ℕ) (ps : List (List ℕ)) (cs : List Content) → part_of kind (map (content kind) ps ++ cs) ≡ joined ps ++ part_of kind cs
 part_same kind [] cs = refl
 part_same kind (p ∷ ps) cs =
-    cond-true (eqb kind kind) (p ++ part_of kind (map (content kind) ps ++ cs)) (part_of kind (map (content kind) ps ++ cs)) (eq-eqb kind kind refl)
-    ∙ ap (λ (ys : List ℕ). p ++ ys) (part_same kind ps cs)
-    ∙ sym (append_assoc p (joined ps) (part_of kind cs))
+    grind (arith, nat_tests, part_same kind ps cs, append_assoc p (joined ps) (part_of kind cs))
 
 part_other : (kind other : ℕ) → eqb other kind ≡ false → (ps : List (List ℕ)) (cs : List Content) → part_of kind (map (content other) ps ++ cs) ≡ part_of kind cs
 part_other kind other apart [] cs = refl
 part_other kind other apart (p ∷ ps) cs =
-    cond-false (eqb other kind) (p ++ part_of kind (map (content other) ps ++ cs)) (part_of kind (map (content other) ps ++ cs)) apart
-    ∙ part_other kind other apart ps cs
+    grind (arith, nat_tests, part_other kind other apart ps cs)
 
 module _ (header body tag : List ℕ) where
   abbrev body_on : List Content

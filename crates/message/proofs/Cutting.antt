@@ -46,15 +46,19 @@ module _ (width : ℕ) (piece more : List ℕ) (next : Next width piece more) wh
             ap (λ (ys : List ℕ). drop width (piece ++ ys)) none ∙ ap (drop width) (append-nil piece) ∙ drop_all width piece short.0 ∙ sym none
       ]
 
+-- a piece of that width, or else of all that is left
+pub next_of : (width : ℕ) (piece more : List ℕ) → length piece ≡ min width (length (piece ++ more)) → Next width piece more
+next_of width piece more size =
+    let whole = length-append piece more in
+    elim (dec_le width (length piece + length more)) [
+      | yes h ↦ inl (omega arith)
+      | no h ↦ inr (omega arith, omega arith)
+    ]
+
 -- the next piece is a block, and the blocks of what follows come after it
 module _ (piece more : List ℕ) (size : length piece ≡ min 16 (length (piece ++ more))) (some : 0 < length (piece ++ more)) where
   next : Next 16 piece more
-  next =
-      let whole = length-append piece more in
-      elim (dec_le 16 (length piece + length more)) [
-        | yes h ↦ inl (omega arith)
-        | no h ↦ inr (omega arith, omega arith)
-      ]
+  next = next_of 16 piece more size
 
   pub blocks_more : blocks (piece ++ more) ≡ block_of (filled piece) ∷ blocks more
   unfolding blocks

@@ -1,14 +1,15 @@
 -- A file read to its end, record by record.
-use Rattle.std.proofs.Common.{◌≡◌, ℕ, suc, ◌+◌, ◌-◌, ◌*◌, ◌/◌, ◌<◌, ◌≤◌, Bool, true, false, cond, eqb, List, [], ◌++◌, length, drop, Some, None, Ok, Err, Option, Result, sym, refl, ap, ◌∙◌, ap₂, inl, inr, add-one, arith}
-use Rattle.std.proofs.lemmas.Bool.{cases_lt, cond-true, cond-false, eq-eqb}
+use Rattle.std.proofs.Common.{◌≡◌, ℕ, suc, ◌+◌, ◌-◌, ◌*◌, ◌/◌, ◌<◌, ◌≤◌, true, cond, eqb, List, [], ◌++◌, length, drop, Some, None, Ok, Err, Option, Result, sym, refl, ap, ◌∙◌, ap₂, inl, inr, add-one, arith}
+use Rattle.std.proofs.lemmas.Bool.{cases_lt, cond-true, eq-eqb}
 use Rattle.refusal.specs.declared.Refusal.{Refusal}
-use Rattle.refusal.specs.declared.Refusal.TheVariants.{FileSize, NoEnd}
+use Rattle.refusal.specs.declared.Refusal.TheVariants.{NoEnd}
 use Rattle.format.specs.Faults.{Previous, first, previous, is_size_good, rows_of, block_at, previous_at, blocks_of, on_fault, fault_of, scanned, data_of}
 use Rattle.format.specs.Verdict.{after}
 use Rattle.sealed.specs.Collecting.{brought, read_answer}
 use Rattle.sealed.specs.Reading.{Taken, wrong_at}
 use Rattle.sealed.specs.declared.record.Item.{Item}
-use Rattle.sealed.proofs.Places.{clear, sized, wrong_block}
+use Rattle.std.proofs.lemmas.Bool.Decides.{nat_tests}
+use Rattle.sealed.proofs.Places.{sized, wrong_block}
 use Rattle.sealed.proofs.Scans.{data_more, rows_more, scan_on}
 
 abbrev Answer : Type 0
@@ -24,25 +25,17 @@ module _ (file : List ℕ) (k : ℕ) (reached : Reached file k) where
 
   -- at the end of the file
   module _ (whole : 512 * k ≡ length file) where
-    by_end : (t : Bool) → cond {A = Answer} t (Ok tt) (Err (NoEnd (length file / 512))) ≡ on_fault (cond t None (Some (NoEnd k))) (Ok tt)
-    by_end true = refl
-    by_end false = let count : length file / 512 ≡ k = omega (arith, whole) in ap (λ (n : ℕ). Err (NoEnd n)) count
-
     ended : after (scanned 0 first (blocks_of file)) last ≡ on_fault (cond (eqb (512 * k) (length file)) (cond (eqb (previous_at file k).kind 3) None (Some (NoEnd k))) (fault_of k (previous_at file k) (block_at file k))) (Ok tt)
     unfolding blocks_of
     ended =
+        let count : length file / 512 ≡ k = omega (arith, whole) in
         let none : length file / 512 - k ≡ 0 = omega (arith, whole) in
         ap (λ (r : Result Previous Refusal). after r last) (reached ∙ ap (λ (n : ℕ). scanned k (previous_at file k) (rows_of n (drop (512 * k) file))) none)
-        ∙ by_end (eqb (previous_at file k).kind 3)
+        ∙ grind (arith, nat_tests, ap (λ (n : ℕ). NoEnd n) count)
         ∙ ap (λ (o : Option Refusal). on_fault o (Ok tt)) (sym (cond-true _ _ _ (eq-eqb (512 * k) (length file) whole)))
 
-    by_size : (t : Bool) → cond t (after (scanned 0 first (blocks_of file)) last) (Err FileSize)
-        ≡ on_fault (cond t (cond (eqb (512 * k) (length file)) (cond (eqb (previous_at file k).kind 3) None (Some (NoEnd k))) (fault_of k (previous_at file k) (block_at file k))) (Some FileSize)) (Ok tt)
-    by_size true = ended
-    by_size false = refl
-
     pub answer_at_end : read_answer file ≡ on_fault (wrong_at file k) (Ok tt)
-    answer_at_end = by_size (is_size_good file)
+    answer_at_end = grind (arith, nat_tests, ended)
 
   -- before a block
   module _ (some : 512 * k < length file) where
@@ -63,16 +56,8 @@ module _ (file : List ℕ) (k : ℕ) (reached : Reached file k) where
         ap (λ (x : Result Previous Refusal). after x last) here ∙ fault_stays o r
         ∙ sym (ap₂ (λ (w : Option Refusal) (x : Result Previous Refusal). on_fault w (after x last)) (wrong_block file k good some) here)
 
-    by_size' : (t : Bool) → is_size_good file ≡ t → read_answer file ≡ on_fault (wrong_at file k) (read_answer file)
-    by_size' true good =
-        let same = cond-true (is_size_good file) (after (scanned 0 first (blocks_of file)) last) (Err FileSize) good in
-        same ∙ met good ∙ ap (on_fault (wrong_at file k)) (sym same)
-    by_size' false bad =
-        let same = cond-false (is_size_good file) (after (scanned 0 first (blocks_of file)) last) (Err FileSize) bad in
-        same ∙ sym (ap (λ (o : Option Refusal). on_fault o (read_answer file)) (cond-false (is_size_good file) _ _ bad))
-
     answer_at_block : read_answer file ≡ on_fault (wrong_at file k) (read_answer file)
-    answer_at_block = by_size' (is_size_good file) refl
+    answer_at_block = grind (arith, nat_tests, met)
 
   -- what the reader refuses is what the file is refused for
   pub refused : (e : Refusal) → 512 * k ≤ length file → wrong_at file k ≡ Some e → read_answer file ≡ Err e
@@ -85,7 +70,7 @@ module _ (file : List ℕ) (k : ℕ) (reached : Reached file k) where
   pub reach_more : wrong_at file k ≡ None → 512 * suc k ≤ length file → Reached file (suc k)
   reach_more right within =
       let n : ℕ = length file / 512 in
-      let good = (clear (is_size_good file) _ FileSize right).0 in
+      let good : is_size_good file ≡ true = grind (arith, nat_tests, right) in
       let none = sym (wrong_block file k good (omega (arith, within))) ∙ right in
       reached ∙ ap (scanned k (previous_at file k)) (rows_more n k file (omega (arith, within)))
       ∙ scan_on k (previous_at file k) (block_at file k) (rows_of (n - (k + 1)) (drop (512 * (k + 1)) file)) none

@@ -1,16 +1,14 @@
 -- Blocks laid into an output, one after another.
-use Rattle.std.proofs.Common.{◌≡◌, ℕ, suc, ◌+◌, ◌-◌, ◌*◌, ◌/◌, ◌%◌, ◌<◌, ◌≤◌, min, leb, List, [], ◌∷◌, ◌++◌, map, length, take, drop, replicate, Ok, sym, ap, ◌∙◌, ap₂, inl, inr, append_assoc, append-nil, arith, length-append}
-use native.Mathlib.Decide.{dec_le}
+use Rattle.std.proofs.Common.{◌≡◌, ℕ, suc, ◌+◌, ◌-◌, ◌*◌, ◌/◌, ◌%◌, ◌<◌, ◌≤◌, min, List, [], ◌∷◌, ◌++◌, map, length, take, drop, replicate, Ok, sym, ap, ◌∙◌, ap₂, append_assoc, append-nil, arith, length-append}
 use borrow.Rule.Slice.PartMut.{put_mid, same_len_mid}
 use Rattle.std.proofs.lemmas.List.{length-drop, length-take-le, length-replicate, length-map, drop-drop, take_all}
 use Rattle.std.proofs.lemmas.Slice.{take-put_mid}
-use Rattle.std.proofs.lemmas.Bool.{leb-true}
-use Rattle.message.proofs.Cutting.{Next}
+use Rattle.message.proofs.Cutting.{next_of}
 use Rattle.format.proofs.Pieces.{length_pieces, pieces_more}
 use Rattle.format.specs.Layout.{Content, blocks_for, front, check_of, block_bytes, content, contents, laid, pieces}
 use Rattle.field.specs.Digits.{digits}
 use Rattle.sealed.specs.Writing.{room_answer}
-use Rattle.sealed.proofs.Places.{passes}
+use Rattle.std.proofs.lemmas.Bool.Decides.{nat_tests}
 use Rattle.sealed.proofs.Numbers.{two_digits, four_digits}
 
 -- ---- one block
@@ -73,36 +71,13 @@ module _ (block : List ℕ) (whole : length block ≡ 512) (number kind : ℕ) (
         ∙ ap₂ (λ (xs ys : List ℕ). xs ++ ys) front_laid
         (wrote₄ ∙ sym (four_digits check) ∙ ap (digits 256 4) (counted ∙ ap check_of front_laid))
 
-pub block_length : (number kind : ℕ) (bytes : List ℕ) → length bytes ≤ 502 → length (block_bytes number (content kind bytes)) ≡ 512
-unfolding front
-block_length number kind bytes short =
-    let fill : List ℕ = replicate (502 - length bytes) 0 in
-    let prefix = ap₂ (λ (xs ys : List ℕ). length (xs ++ (kind ∷ (0 ∷ (ys ++ (bytes ++ fill)))))) (two_digits number) (two_digits (length bytes)) in
-    let written = length-append bytes fill in
-    let zeros : length fill ≡ 502 - length bytes = length-replicate (502 - length bytes) 0 in
-    let check = ap length (four_digits (check_of (front number (content kind bytes)))) in
-    length-append (front number (content kind bytes)) (digits 256 4 (check_of (front number (content kind bytes))))
-    ∙ omega (arith, prefix, written, zeros, check)
-
 -- ---- the pieces of a part
 
 -- the next piece, and those of what follows
-module _ (piece more : List ℕ) (size : length piece ≡ min 502 (length (piece ++ more))) (some : 0 < length (piece ++ more)) where
-  next : Next 502 piece more
-  next =
-      let whole = length-append piece more in
-      elim (dec_le 502 (length piece + length more)) [
-        | yes h ↦ inl (omega arith)
-        | no h ↦ inr (omega arith, omega arith)
-      ]
-
-  pub count_more : (length (piece ++ more) + 501) / 502 ≡ suc ((length more + 501) / 502)
-  count_more =
-      let whole = length-append piece more in
-      elim next [ inl full ↦ omega arith | inr short ↦ omega arith ]
-
-  pub next_piece : pieces (piece ++ more) ≡ piece ∷ pieces more
-  next_piece = let whole = length-append piece more in pieces_more piece more (omega arith) next
+pub next_piece : (piece more : List ℕ) → length piece ≡ min 502 (length (piece ++ more)) → 0 < length (piece ++ more) → pieces (piece ++ more) ≡ piece ∷ pieces more
+next_piece piece more size some =
+    let whole = length-append piece more in
+    pieces_more piece more (omega arith) (next_of 502 piece more size)
 
 pub laid_append : (n : ℕ) (cs ds : List Content) → laid n (cs ++ ds) ≡ laid n cs ++ laid (n + length cs) ds
 laid_append n [] ds = let e : n ≡ n + 0 = omega arith in ap (λ (k : ℕ). laid k ds) e
@@ -136,11 +111,8 @@ whole_laid header body tag n k upto-body upto-end =
 
 pub room_enough : (header body output n : ℕ) → Ok n ≡ room_answer header body output → 512 * blocks_for header body ≤ output
 room_enough header body output n done =
-    let short = passes (leb header 65535) _ _ _ done in
-    let few = passes (leb (blocks_for header body) 65536) _ _ _ short.1 in
-    leb-true (512 * blocks_for header body) output (passes (leb (512 * blocks_for header body) output) _ _ _ few.1).0
+    grind (arith, nat_tests, done)
 
 pub limits_kept : (header body output n : ℕ) → Ok n ≡ room_answer header body output → (header ≤ 65535) × (blocks_for header body ≤ 65536)
 limits_kept header body output n done =
-    let short = passes (leb header 65535) _ _ _ done in
-    (leb-true header 65535 short.0, leb-true (blocks_for header body) 65536 (passes (leb (blocks_for header body) 65536) _ _ _ short.1).0)
+    (grind (arith, nat_tests, done), grind (arith, nat_tests, done))

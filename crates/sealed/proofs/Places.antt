@@ -1,13 +1,15 @@
 -- The blocks of a file by their places, and what the tests on them tell.
-use Rattle.std.proofs.Common.{◌≡◌, ℕ, suc, ◌+◌, ◌-◌, ◌*◌, ◌%◌, ◌<◌, ◌≤◌, Bool, true, false, cond, not, ◌&&◌, eqb, leb, List, length, take, drop, is_some, is_ok, Some, None, Ok, Err, Option, Result, sym, refl, ap, ◌∙◌, arith}
-use Rattle.std.proofs.lemmas.Bool.{true≢false, and_from, and_parts, eqb-true, leb-true, cond-true, cond-false, ne_eqb, eq-eqb}
+use Rattle.std.proofs.Common.{◌≡◌, ℕ, suc, ◌+◌, ◌-◌, ◌*◌, ◌%◌, ◌<◌, ◌≤◌, Bool, true, false, ◌&&◌, eqb, leb, List, length, take, drop, None, sym, refl, ap, ◌∙◌, arith}
+use Rattle.std.proofs.lemmas.Bool.{ne_eqb}
+use Rattle.std.proofs.lemmas.Bool.Decides.{nat_tests}
 use Rattle.std.proofs.lemmas.List.{drop-take, length-drop, length-take-le}
-use Rattle.refusal.specs.declared.Refusal.{Refusal}
-use Rattle.format.specs.Layout.{check_of}
-use Rattle.format.specs.Faults.{Previous, number_in, kind_in, reserve_in, used_in, fill_in, check_in, is_used_fit, is_all_zero, is_form_good, is_order_good, is_size_good, block_at, previous_at, fault_of}
+use Rattle.format.specs.Faults.{Previous, kind_in, used_in, is_used_fit, is_all_zero, is_form_good, is_size_good, block_at, previous_at, fault_of}
 use Rattle.format.specs.Kinds.{number_of}
 use Rattle.format.specs.declared.kind.Kind.{Kind}
 use Rattle.format.specs.declared.kind.Kind.TheVariants.{Header, Body, End}
+use Rattle.format.proofs.BlockFields.{form_parts, used_limit}
+use Rattle.format.proofs.Sequences.{not_past_end}
+use Rattle.format.proofs.Scans.{faultless}
 use Rattle.sealed.specs.Reading.{prefix_in, wrong_at}
 use Rattle.sealed.specs.declared.prefix.Prefix.{Prefix}
 
@@ -19,17 +21,7 @@ pub record Sized (file : List ℕ) : Type 0 where
   pub few : length file ≤ 33554432
 
 pub sized : (file : List ℕ) → is_size_good file ≡ true → Sized file
-sized file good =
-    let a = and_parts _ _ good in
-    let b = and_parts _ _ a.1 in
-    record { whole = eqb-true _ _ a.0; some = leb-true _ _ b.0; few = leb-true _ _ b.1 }
-
-fits_within : (used : ℕ) (t : Bool) → cond t (eqb used 16) (leb 1 used && leb used 502) ≡ true → used ≤ 502
-fits_within used true fits = omega (arith, eqb-true used 16 fits)
-fits_within used false fits = leb-true used 502 (and_parts (leb 1 used) (leb used 502) fits).1
-
-pub used_within : (kind used : ℕ) → is_used_fit kind used ≡ true → used ≤ 502
-used_within kind used fits = fits_within used (eqb kind 3) fits
+sized file good = record { whole = grind (arith, nat_tests); some = grind (arith, nat_tests); few = grind (arith, nat_tests) }
 
 -- ---- a block of good form
 
@@ -37,18 +29,6 @@ pub fill_is : (b : List ℕ) (used : ℕ) → used ≤ 502 → take (508 - (6 + 
 fill_is b used within =
     let e : 6 + used + (508 - (6 + used)) ≡ 508 = omega arith in
     sym (drop-take (6 + used) (508 - (6 + used)) b) ∙ ap (λ (n : ℕ). drop (6 + used) (take n b)) e
-
-unless_first : (t u : Bool) → t ≡ true → (t && u) ≡ u
-unless_first t u e = ap (λ (b : Bool). b && u) e
-
-unless_second : (t u v : Bool) → u ≡ false → (t && (u && v)) ≡ false
-unless_second true u v e = ap (λ (b : Bool). b && v) e
-unless_second false u v e = refl
-
-unless_third : (t u v : Bool) → v ≡ false → (t && (u && v)) ≡ false
-unless_third true true v e = e
-unless_third true false v e = refl
-unless_third false u v e = refl
 
 -- a kind's number is 1 to 3
 in_range : (k : Kind) → (leb 1 (number_of k) ≡ true) × (leb (number_of k) 3 ≡ true)
@@ -69,63 +49,29 @@ module _ (b : List ℕ) (k : Kind) (p : Prefix) (kind : number_of k ≡ p.kind) 
       let said : prefix_in b ≡ p = sym named in
       let number : kind_in b ≡ number_of k = sym (kind ∙ ap (λ (q : Prefix). q.kind) named) in
       (λ i. leb 1 (number i) && (leb (number i) 3 && (eqb (said i).reserve 0 && (is_used_fit (number i) (said i).used && is_all_zero (drop (6 + (said i).used) (take 508 b))))))
-      ∙ unless_first (leb 1 (number_of k)) _ (in_range k).0
-      ∙ unless_first (leb (number_of k) 3) _ (in_range k).1
+      ∙ grind (arith, nat_tests, (in_range k).0, (in_range k).1)
 
   fill_read : is_used_fit (number_of k) p.used ≡ true → zeros ≡ is_all_zero slice
-  fill_read fits = ap is_all_zero (sym (fill_is b p.used (used_within (number_of k) p.used fits)))
+  fill_read fits = ap is_all_zero (sym (fill_is b p.used (used_limit (number_of k) p.used fits)))
 
   pub bad_reserve : (p.reserve ≡ 0 → ⊥) → is_form_good b ≡ false
-  bad_reserve some = form_is ∙ ap (λ (t : Bool). t && (is_used_fit (number_of k) p.used && zeros)) (ne_eqb p.reserve 0 some)
+  bad_reserve some = grind (arith, nat_tests, form_is)
 
   pub bad_used : is_used_fit (number_of k) p.used ≡ false → is_form_good b ≡ false
-  bad_used bad = form_is ∙ unless_second (eqb p.reserve 0) (is_used_fit (number_of k) p.used) zeros bad
+  bad_used bad = grind (arith, nat_tests, form_is)
 
   pub bad_fill : is_used_fit (number_of k) p.used ≡ true → is_all_zero slice ≡ false → is_form_good b ≡ false
-  bad_fill fits bad = form_is ∙ unless_third (eqb p.reserve 0) (is_used_fit (number_of k) p.used) zeros (fill_read fits ∙ bad)
+  bad_fill fits bad = grind (arith, nat_tests, form_is, fill_read fits)
 
   pub good_form : p.reserve ≡ 0 → is_used_fit (number_of k) p.used ≡ true → is_all_zero slice ≡ true → is_form_good b ≡ true
-  good_form none fits good = form_is ∙ and_from _ _ (eq-eqb p.reserve 0 none) (and_from _ _ fits (fill_read fits ∙ good))
-
-pub clear : (t : Bool) (more : Option Refusal) (e : Refusal) → cond t more (Some e) ≡ None → (t ≡ true) × (more ≡ None)
-clear true more e none = (refl, none)
-clear false more e none = absurd (true≢false (ap is_some none))
-
--- an answer that is no refusal passed the test
-pub passes : {T : Type 0} (t : Bool) (more : Result T Refusal) (e : Refusal) (x : T) → Ok x ≡ cond t more (Err e) → (t ≡ true) × (Ok x ≡ more)
-passes true more e x done = (refl, done)
-passes false more e x done = absurd (true≢false (ap is_ok done))
-
--- a block without fault passed every test
-record Faultless (k : ℕ) (p : Previous) (b : List ℕ) : Type 0 where
-  pub form : is_form_good b ≡ true
-  pub order : is_order_good p (kind_in b) ≡ true
-
-faultless : (k : ℕ) (p : Previous) (b : List ℕ) → fault_of k p b ≡ None → Faultless k p b
-faultless k p b none =
-    let checked = clear (eqb (check_in b) (check_of (take 508 b))) _ _ none in
-    let numbered = clear (eqb (number_in b) k) _ _ checked.1 in
-    let good = clear (is_form_good b) _ _ numbered.1 in
-    record { form = good.0; order = (clear (is_order_good p (kind_in b)) _ _ good.1).0 }
-
-pub no_fault_form : (k : ℕ) (p : Previous) (b : List ℕ) → fault_of k p b ≡ None → is_form_good b ≡ true
-no_fault_form k p b none = (faultless k p b none).form
+  good_form none fits good = grind (arith, nat_tests, form_is, fill_read fits)
 
 -- nothing stands after an end block
 pub no_fault_order : (k : ℕ) (p : Previous) (b : List ℕ) → fault_of k p b ≡ None → eqb p.kind 3 ≡ false
-no_fault_order k p b none = unless (eqb p.kind 3) (and_parts (not (eqb p.kind 3)) _ (faultless k p b none).order).0
-  where
-    unless : (t : Bool) → not t ≡ true → t ≡ false
-    unless true h = absurd (true≢false (sym h))
-    unless false h = refl
+no_fault_order k p b none = ne_eqb p.kind 3 (not_past_end p (kind_in b) (faultless k p b none).order)
 
 pub used_of_end : (b : List ℕ) → is_form_good b ≡ true → kind_in b ≡ 3 → used_in b ≡ 16
-used_of_end b good end =
-    let p = and_parts (leb 1 (kind_in b)) _ good in
-    let q = and_parts (leb (kind_in b) 3) _ p.1 in
-    let r = and_parts (eqb (reserve_in b) 0) _ q.1 in
-    let s = and_parts (is_used_fit (kind_in b) (used_in b)) (is_all_zero (fill_in b)) r.1 in
-    eqb-true (used_in b) 16 (sym (cond-true _ _ _ (eq-eqb (kind_in b) 3 end)) ∙ s.0)
+used_of_end b good end = grind (arith, nat_tests, (form_parts b good).used)
 
 -- ---- places
 
@@ -133,4 +79,4 @@ pub block_size : (file : List ℕ) (k : ℕ) → 512 * suc k ≤ length file →
 block_size file k within = length-take-le 512 (drop (512 * k) file) (omega (arith, length-drop (512 * k) file))
 
 pub wrong_block : (file : List ℕ) (k : ℕ) → is_size_good file ≡ true → 512 * k < length file → wrong_at file k ≡ fault_of k (previous_at file k) (block_at file k)
-wrong_block file k good some = cond-true _ _ _ good ∙ cond-false _ _ _ (ne_eqb (512 * k) (length file) (λ e. omega (arith, e)))
+wrong_block file k good some = grind (arith, nat_tests, good, some)

@@ -1,7 +1,7 @@
 -- The blocks of a file, one after another.
-use Rattle.std.proofs.Common.{◌≡◌, ℕ, zero, suc, ◌+◌, ◌-◌, ◌*◌, ◌/◌, ◌<◌, ◌≤◌, min, Bool, true, false, cond, eqb, List, [], ◌∷◌, ◌++◌, length, get_or, take, drop, take-append-drop, add-one, Some, None, Err, sym, refl, ap, ap₂, ◌∙◌, append_assoc, append-nil, zero-add, arith, length-append}
-use native.Mathlib.Decide.{dec_le}
-use Rattle.std.proofs.lemmas.List.{drop-drop, drop_more, take_more, length-drop, length-take, length-take-le, take_all}
+use Rattle.std.proofs.Common.{◌≡◌, ℕ, zero, suc, ◌+◌, ◌-◌, ◌*◌, ◌/◌, ◌<◌, ◌≤◌, cond, eqb, List, [], ◌∷◌, ◌++◌, length, get_or, take, drop, take-append-drop, add-one, Some, None, Err, sym, refl, ap, ap₂, ◌∙◌, append_assoc, append-nil, zero-add, arith, length-append}
+use Rattle.std.proofs.lemmas.Bool.Decides.{nat_tests}
+use Rattle.std.proofs.lemmas.List.{drop-drop, drop_more, take_more, length-drop, length-take, length-take-le}
 use Rattle.std.specs.Simd.{first_chunks}
 use Rattle.refusal.specs.declared.Refusal.{Refusal}
 use Rattle.format.specs.Faults.{Previous, previous, kind_in, used_in, data_in, rows_of, block_at, blocks_of, on_fault, fault_of, scanned, data_of}
@@ -55,11 +55,7 @@ chunk_size file bs k d cut less =
 -- ---- data
 
 data_cons : (kind : ℕ) (b : List ℕ) (bs : List (List ℕ)) → data_of kind (b ∷ bs) ≡ data_of_kind kind b ++ data_of kind bs
-data_cons kind b bs = by_kind (eqb (kind_in b) kind)
-  where
-    by_kind : (t : Bool) → cond t (data_in b ++ data_of kind bs) (data_of kind bs) ≡ cond t (data_in b) [] ++ data_of kind bs
-    by_kind true = refl
-    by_kind false = refl
+data_cons kind b bs = grind (arith, nat_tests)
 
 pub data_append : (kind : ℕ) (cs bs : List (List ℕ)) → data_of kind (cs ++ bs) ≡ data_of kind cs ++ data_of kind bs
 data_append kind [] bs = refl
@@ -87,19 +83,13 @@ data_more kind k file =
     ∙ ap (λ (xs : List ℕ). data_of kind (rows_of k file) ++ xs) (data_cons kind (block_at file k) [] ∙ append-nil (data_of_kind kind (block_at file k)))
 
 pub data_length : (kind : ℕ) (b : List ℕ) → length b ≡ 512 → used_in b ≤ 502 → length (data_of_kind kind b) ≡ cond (eqb (kind_in b) kind) (used_in b) 0
-data_length kind b whole within = by_kind (eqb (kind_in b) kind)
-  where
-    by_kind : (t : Bool) → length (cond t (data_in b) []) ≡ cond t (used_in b) 0
-    by_kind true = length-take-le (used_in b) (drop 6 b) (omega (arith, length-drop 6 b, whole, within))
-    by_kind false = refl
+data_length kind b whole within =
+    let long : length (data_in b) ≡ used_in b = length-take-le (used_in b) (drop 6 b) (omega (arith, length-drop 6 b, whole, within)) in
+    grind (arith, nat_tests, long)
 
 data_short : (kind : ℕ) (xs : List ℕ) → length (data_of_kind kind (take 512 xs)) ≤ 512
-data_short kind xs = by_kind (eqb (kind_in (take 512 xs)) kind)
-  where
-    by_kind : (t : Bool) → length (cond t (data_in (take 512 xs)) []) ≤ 512
-    by_kind true =
-        omega (arith, length-take (used_in (take 512 xs)) (drop 6 (take 512 xs)), length-drop 6 (take 512 xs), length-take 512 xs)
-    by_kind false = omega arith
+data_short kind xs =
+    grind (arith, nat_tests, length-take (used_in (take 512 xs)) (drop 6 (take 512 xs)), length-drop 6 (take 512 xs), length-take 512 xs)
 
 pub data_within : (kind n : ℕ) (file : List ℕ) → length (data_of kind (rows_of n file)) ≤ 512 * n
 data_within kind zero file = omega arith
@@ -133,21 +123,10 @@ pub data_at_end : (kind k : ℕ) (file : List ℕ) → k ≡ length file / 512 �
 unfolding blocks_of
 data_at_end kind k file end = ap (λ (j : ℕ). data_of kind (rows_of j file)) end
 
--- the data of a block, up to a length that may lie past the block
-pub take_min : (n k : ℕ) (b : List ℕ) → k ≡ min n 506 → length b ≡ 512 → take (6 + k - 6) (drop 6 b) ≡ take n (drop 6 b)
-take_min n k b least whole =
-    elim (dec_le n 506) [
-      | yes h ↦ let e : 6 + k - 6 ≡ n = omega (arith, least) in ap (λ (j : ℕ). take j (drop 6 b)) e
-      | no h ↦ take_all (6 + k - 6) (drop 6 b) (omega (arith, least, length-drop 6 b)) ∙ sym (take_all n (drop 6 b) (omega (arith, length-drop 6 b)))
-    ]
-
 -- ---- scanning
 
 pub scan_on : (k : ℕ) (p : Previous) (b : List ℕ) (bs : List (List ℕ)) → fault_of k p b ≡ None → scanned k p (b ∷ bs) ≡ scanned (suc k) (previous b) bs
 scan_on k p b bs none = ap (λ o. on_fault o (scanned (suc k) (previous b) bs)) none
-
-pub scan_stop : (k : ℕ) (p : Previous) (b : List ℕ) (bs : List (List ℕ)) (e : Refusal) → fault_of k p b ≡ Some e → scanned k p (b ∷ bs) ≡ Err e
-scan_stop k p b bs e bad = ap (λ o. on_fault o (scanned (suc k) (previous b) bs)) bad
 
 -- a scan from block k on: past a block without fault, and no further than one with a fault
 pub scan_more : (k : ℕ) (p : Previous) (bs : List (List ℕ)) (d : List ℕ) → k < length bs → fault_of k p (get_or bs k d) ≡ None
@@ -157,4 +136,4 @@ scan_more k p bs d less none =
     ∙ ap (λ (j : ℕ). scanned j (previous (get_or bs k d)) (drop (k + 1) bs)) (sym (add-one k))
 
 pub scan_ends : (k : ℕ) (p : Previous) (bs : List (List ℕ)) (d : List ℕ) (e : Refusal) → k < length bs → fault_of k p (get_or bs k d) ≡ Some e → scanned k p (drop k bs) ≡ Err e
-scan_ends k p bs d e less bad = ap (scanned k p) (drop_more bs k d less) ∙ scan_stop k p (get_or bs k d) (drop (k + 1) bs) e bad
+scan_ends k p bs d e less bad = ap (scanned k p) (drop_more bs k d less) ∙ ap (λ o. on_fault o (scanned (suc k) (previous (get_or bs k d)) (drop (k + 1) bs))) bad

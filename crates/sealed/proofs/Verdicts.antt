@@ -1,7 +1,7 @@
 -- From the first pass and the tag to the verdict.
-use Rattle.std.proofs.Common.{◌≡◌, ℕ, zero, suc, ◌+◌, ◌-◌, ◌*◌, ◌/◌, ◌≤◌, Bool, true, false, cond, eqb, leb, List, [], ◌∷◌, ◌++◌, length, take, drop, is_ok, Some, None, Ok, Err, MatchBool, Option, Result, sym, refl, ap, ◌∙◌, subst, append-nil, arith}
+use Rattle.std.proofs.Common.{◌≡◌, ℕ, zero, suc, ◌+◌, ◌-◌, ◌*◌, ◌/◌, Bool, true, false, cond, eqb, leb, List, [], ◌∷◌, ◌++◌, length, take, drop, Some, None, Ok, Err, MatchBool, Option, Result, sym, refl, ap, ◌∙◌, subst, append-nil, arith}
 use Rattle.std.proofs.lemmas.List.{drop-drop, length-drop, take_all}
-use Rattle.std.proofs.lemmas.Bool.{true≢false, cond-true, cond-false, eq-eqb, eqb-true, leb-true}
+use Rattle.std.proofs.lemmas.Bool.{cond-true, cond-false, eq-eqb}
 use Rattle.field.specs.declared.kinds.Block.{Block}
 use Rattle.refusal.specs.Refusals.{number_of}
 use Rattle.refusal.specs.declared.Refusal.{Refusal}
@@ -13,36 +13,34 @@ use Rattle.format.specs.Verdict.{after, tag_verdict, verdict}
 use Rattle.format.specs.declared.lengths.Lengths.{Lengths}
 use Rattle.sealed.specs.Checking.{first_pass_answer, EngineAfter}
 use Rattle.tag.specs.Tags.{Ran}
-use Rattle.sealed.proofs.Places.{Sized, no_fault_form, no_fault_order, passes, used_of_end}
+use Rattle.format.proofs.Scans.{faultless, went_on}
+use Rattle.format.proofs.Laws.{ending, Passed, passed_tests}
+use Rattle.sealed.proofs.Places.{Sized, no_fault_order, used_of_end}
 
 abbrev lengths_of : List ℕ → Lengths
 lengths_of file = record { header = length (header_in file); body = length (body_in file) }
 
+after_cond : {T U : Type 0} (t : Bool) (r : Result T Refusal) (e : Refusal) (f : T → Result U Refusal) → cond t (after r f) (Err e) ≡ after (cond t r (Err e)) f
+after_cond true r e f = refl
+after_cond false r e f = refl
+
+after_twice : {T U V : Type 0} (r : Result T Refusal) (f : T → Result U Refusal) (g : U → Result V Refusal) → after r (λ x. after (f x) g) ≡ after (after r f) g
+after_twice (Ok x) f g = refl
+after_twice (Err e) f g = refl
+
 -- the tag is looked at after the first pass
 pub verdict_after : (subkey pad : Block) (file : List ℕ) → verdict subkey pad file ≡ after (first_pass_answer file) (λ _. tag_verdict subkey pad file)
-verdict_after subkey pad file = by_size (is_size_good file)
-  where
-    by_limit : (t : Bool) → cond t (tag_verdict subkey pad file) (Err HeaderTooLong) ≡ after (cond t (Ok (lengths_of file)) (Err HeaderTooLong)) (λ _. tag_verdict subkey pad file)
-    by_limit true = refl
-    by_limit false = refl
-
-    by_end : (t : Bool)
-        → cond t (cond (leb (length (header_in file)) 65535) (tag_verdict subkey pad file) (Err HeaderTooLong)) (Err (NoEnd (length file / 512)))
-        ≡ after (cond t (cond (leb (length (header_in file)) 65535) (Ok (lengths_of file)) (Err HeaderTooLong)) (Err (NoEnd (length file / 512)))) (λ _. tag_verdict subkey pad file)
-    by_end true = by_limit (leb (length (header_in file)) 65535)
-    by_end false = refl
-
-    by_scan : (r : Result Previous Refusal)
-        → after r (λ last. cond (eqb last.kind 3) (cond (leb (length (header_in file)) 65535) (tag_verdict subkey pad file) (Err HeaderTooLong)) (Err (NoEnd (length file / 512))))
-        ≡ after (after r (λ last. cond (eqb last.kind 3) (cond (leb (length (header_in file)) 65535) (Ok (lengths_of file)) (Err HeaderTooLong)) (Err (NoEnd (length file / 512))))) (λ _. tag_verdict subkey pad file)
-    by_scan (Ok last) = by_end (eqb last.kind 3)
-    by_scan (Err e) = refl
-
-    by_size : (t : Bool)
-        → cond t (after (scanned 0 first (blocks_of file)) (λ last. cond (eqb last.kind 3) (cond (leb (length (header_in file)) 65535) (tag_verdict subkey pad file) (Err HeaderTooLong)) (Err (NoEnd (length file / 512))))) (Err FileSize)
-        ≡ after (cond t (after (scanned 0 first (blocks_of file)) (λ last. cond (eqb last.kind 3) (cond (leb (length (header_in file)) 65535) (Ok (lengths_of file)) (Err HeaderTooLong)) (Err (NoEnd (length file / 512))))) (Err FileSize)) (λ _. tag_verdict subkey pad file)
-    by_size true = by_scan (scanned 0 first (blocks_of file))
-    by_size false = refl
+verdict_after subkey pad file =
+    let tag : Result Lengths Refusal = tag_verdict subkey pad file in
+    let told : Result Lengths Refusal = Ok (lengths_of file) in
+    let short : Bool = leb (length (header_in file)) 65535 in
+    let at_end : (last : Previous) → ending file tag last ≡ after (ending file told last) (λ _. tag) =
+    λ last. ap (λ (r : Result Lengths Refusal). cond (eqb last.kind 3) r (Err (NoEnd (length file / 512)))) (after_cond short told HeaderTooLong (λ _. tag))
+    ∙ after_cond (eqb last.kind 3) (cond short told (Err HeaderTooLong)) (NoEnd (length file / 512)) (λ _. tag) in
+    let scan : Result Previous Refusal = scanned 0 first (blocks_of file) in
+    ap (λ (r : Result Lengths Refusal). cond (is_size_good file) r (Err FileSize))
+    ((λ i. after scan (λ last. at_end last i)) ∙ after_twice scan (ending file told) (λ _. tag))
+    ∙ after_cond (is_size_good file) (after scan (ending file told)) FileSize (λ _. tag)
 
 -- ---- no refusal of the first pass is that of a tag
 
@@ -58,25 +56,16 @@ other_after : {T U : Type 0} (r : Result T Refusal) (f : T → Result U Refusal)
 other_after (Ok x) f h others = others x
 other_after (Err e) f h others = h
 
+other_stop : (t : Bool) (o : Option Refusal) (e : Refusal) (r : Result Previous Refusal) → OtherThanTag (on_fault o r) → eqb (number_of e) 8 ≡ false → OtherThanTag (on_fault (cond t o (Some e)) r)
+other_stop true o e r h other = h
+other_stop false o e r h other = other
+
 other_fault : (k : ℕ) (p : Previous) (b : List ℕ) (r : Result Previous Refusal) → OtherThanTag r → OtherThanTag (on_fault (fault_of k p b) r)
-other_fault k p b r other = by_check (eqb (check_in b) (check_of (take 508 b)))
-  where
-    by_order : (t : Bool) → OtherThanTag (on_fault (cond t None (Some (WrongOrder k))) r)
-    by_order true = other
-    by_order false = refl
-
-    by_form : (t : Bool) → OtherThanTag (on_fault (cond t (cond (is_order_good p (kind_in b)) None (Some (WrongOrder k))) (Some (WrongForm k))) r)
-    by_form true = by_order (is_order_good p (kind_in b))
-    by_form false = refl
-
-    by_number : (t : Bool) → OtherThanTag (on_fault (cond t (cond (is_form_good b) (cond (is_order_good p (kind_in b)) None (Some (WrongOrder k))) (Some (WrongForm k))) (Some (WrongNumber k))) r)
-    by_number true = by_form (is_form_good b)
-    by_number false = refl
-
-    by_check : (t : Bool)
-        → OtherThanTag (on_fault (cond t (cond (eqb (number_in b) k) (cond (is_form_good b) (cond (is_order_good p (kind_in b)) None (Some (WrongOrder k))) (Some (WrongForm k))) (Some (WrongNumber k))) (Some (WrongCheck k))) r)
-    by_check true = by_number (eqb (number_in b) k)
-    by_check false = refl
+other_fault k p b r other =
+    other_stop (eqb (check_in b) (check_of (take 508 b))) _ (WrongCheck k) r
+    (other_stop (eqb (number_in b) k) _ (WrongNumber k) r
+    (other_stop (is_form_good b) _ (WrongForm k) r
+    (other_stop (is_order_good p (kind_in b)) None (WrongOrder k) r other refl) refl) refl) refl
 
 other_scan : (k : ℕ) (p : Previous) (bs : List (List ℕ)) → OtherThanTag (scanned k p bs)
 other_scan k p [] = tt
@@ -91,42 +80,16 @@ other_pass file =
 
 -- ---- a first pass without refusal
 
-went_on : {T U : Type 0} (r : Result T Refusal) (f : T → Result U Refusal) (y : U) → Ok y ≡ after r f → (x : T) × (r ≡ Ok x) × (Ok y ≡ f x)
-went_on (Ok x) f y done = (x, refl, done)
-went_on (Err e) f y done = absurd (true≢false (ap is_ok done))
-
-pub record Passed (file : List ℕ) (lengths : Lengths) : Type 0 where
-  pub size : is_size_good file ≡ true
-  pub last : Previous
-  pub scan : scanned 0 first (blocks_of file) ≡ Ok last
-  pub end : last.kind ≡ 3
-  pub short : length (header_in file) ≤ 65535
-  pub answer : ◌≡◌ {A = Result Lengths Refusal} (Ok lengths) (Ok (lengths_of file))
-
-pub passed : (file : List ℕ) (lengths : Lengths) → Ok lengths ≡ first_pass_answer file → Passed file lengths
+pub passed : (file : List ℕ) (lengths : Lengths) → Ok lengths ≡ first_pass_answer file → Passed file × (◌≡◌ {A = Result Lengths Refusal} (Ok lengths) (Ok (lengths_of file)))
 passed file lengths done =
-    let good = passes (is_size_good file) _ FileSize lengths done in
-    let on = went_on (scanned 0 first (blocks_of file)) _ lengths good.1 in
-    let ended = passes (eqb on.0.kind 3) _ (NoEnd (length file / 512)) lengths on.2 in
-    let within = passes (leb (length (header_in file)) 65535) (Ok (lengths_of file)) HeaderTooLong lengths ended.1 in
-    record {
-      size = good.0;
-      last = on.0;
-      scan = on.1;
-      end = eqb-true on.0.kind 3 ended.0;
-      short = leb-true (length (header_in file)) 65535 within.0;
-      answer = within.1;
-    }
+    let through = passed_tests file (Ok (lengths_of file)) lengths (sym done) in
+    (through.0, sym through.1)
 
 -- ---- the tag in the last block
 
 abbrev last_of : List ℕ → List (List ℕ) → List ℕ
 last_of b [] = b
 last_of b (c ∷ cs) = last_of c cs
-
-no_fault : (o : Option Refusal) (r : Result Previous Refusal) (q : Previous) → on_fault o r ≡ Ok q → (o ≡ None) × (r ≡ Ok q)
-no_fault None r q done = (refl, done)
-no_fault (Some e) r q done = absurd (true≢false (sym (ap is_ok done)))
 
 abbrev standing : Previous → Result Previous Refusal → Previous
 standing p (Ok q) = q
@@ -136,14 +99,14 @@ standing p (Err e) = p
 end_data : (k : ℕ) (p q : Previous) (b : List ℕ) (bs : List (List ℕ)) → scanned k p (b ∷ bs) ≡ Ok q → q.kind ≡ 3
     → (data_of 3 (b ∷ bs) ≡ data_in (last_of b bs)) × (used_in (last_of b bs) ≡ 16)
 end_data k p q b [] done end =
-    let good = no_fault (fault_of k p b) (Ok (previous b)) q done in
+    let good = went_on (fault_of k p b) (Ok (previous b)) q done in
     let kind : kind_in b ≡ 3 = ap (λ r. (standing p r).kind) good.1 ∙ end in (
       cond-true _ _ _ (eq-eqb (kind_in b) 3 kind) ∙ append-nil (data_in b),
-      used_of_end b (no_fault_form k p b good.0) kind,
+      used_of_end b (faultless k p b good.0).form kind,
     )
 end_data k p q b (c ∷ cs) done end =
-    let good = no_fault (fault_of k p b) (scanned (suc k) (previous b) (c ∷ cs)) q done in
-    let next = no_fault (fault_of (suc k) (previous b) c) (scanned (suc (suc k)) (previous c) cs) q good.1 in
+    let good = went_on (fault_of k p b) (scanned (suc k) (previous b) (c ∷ cs)) q done in
+    let next = went_on (fault_of (suc k) (previous b) c) (scanned (suc (suc k)) (previous c) cs) q good.1 in
     let other : eqb (kind_in b) 3 ≡ false = no_fault_order (suc k) (previous b) c next.0 in
     let rest = end_data (suc k) (previous b) q c cs good.1 end in
     (cond-false _ (data_in b ++ data_of 3 (c ∷ cs)) (data_of 3 (c ∷ cs)) other ∙ rest.0, rest.1)
@@ -166,10 +129,10 @@ last_chunk file n size =
     let at : length file - 512 ≡ 512 * n = omega (arith, size) in
     ap (λ (j : ℕ). drop j file) at ∙ sym (take_all 512 (drop (512 * n) file) (omega (arith, length-drop (512 * n) file, size)))
 
-pub tag_stored : (file : List ℕ) (lengths : Lengths) → Passed file lengths → Sized file
+pub tag_stored : (file : List ℕ) → Passed file → Sized file
     → take 16 (drop 6 (drop (length file - 512) file)) ≡ tag_in file
 unfolding blocks_of
-tag_stored file lengths pass good =
+tag_stored file pass good =
     let n : ℕ = length file / 512 - 1 in
     let count : length file / 512 ≡ suc n = omega (arith, good.some) in
     let size : length file ≡ 512 * suc n = omega (arith, good.whole, good.some) in

@@ -26,11 +26,6 @@ returns-in-Err g c =
       engine = untouched m c.args.engine c.args.engine file c.in-Err.refusal c.in-Err.ensures;
     }
 
-pub hash_file-engine-requires : goal.hash_file-engine-requires
-hash_file-engine-requires g c =
-    let pass = passed c.args.file.now c.in-Ok.lengths c.in-Ok.ensures in
-    record { size = pass.size; short = pass.short }
-
 pub returns : goal.returns
 returns g c =
     let m = g.E.Engine in
@@ -39,14 +34,14 @@ returns g c =
     let pad : Block = c.args.pad in
     let h : Block = m.subkey_of e in
     let tagged : Result Lengths Refusal = tag_verdict h pad file in
-    let pass = passed file c.in-Ok.lengths c.in-Ok.ensures in
+    let pass = (passed file c.in-Ok.lengths c.in-Ok.ensures).0 in
     let stored : c.stored_tag.result.bits ≡ numeral 256 (tag_in file) =
-    c.stored_tag.ensures ∙ ap (numeral 256) (tag_stored file c.in-Ok.lengths pass (sized file pass.size)) in
+    c.stored_tag.ensures ∙ ap (numeral 256) (tag_stored file pass (sized file pass.size)) in
     let same : eqb c.stored_tag.result.bits c.hash_file-engine.result.tag.bits ≡ eqb (numeral 256 (tag_in file)) (tag_of h pad (header_in file) (body_in file)).bits =
     ap₂ (λ (n : ℕ) (t : Block). eqb n t.bits) stored c.hash_file-engine.ensures.tag in
     let said =
     c.compare_tags.ensures
-    ∙ ap₂ (λ (t : Bool) (r : Result Lengths Refusal). cond t r (Err TagDiffers)) same pass.answer
+    ∙ ap₂ (λ (t : Bool) (r : Result Lengths Refusal). cond t r (Err TagDiffers)) same (passed file c.in-Ok.lengths c.in-Ok.ensures).1
     ∙ ap (λ (r : Result Lengths Refusal). after r (λ _. tagged)) c.in-Ok.ensures
     ∙ sym (verdict_after h pad file) in
     record {

@@ -2,8 +2,8 @@ use Rattle.std.proofs.Common.{◌≡◌, ℕ, suc, ◌+◌, ◌*◌, ◌<◌, mi
 use Rattle.std.specs.Slice.Iter.{chunks_rest}
 use Rattle.format.specs.Kinds.{number_of}
 use Rattle.format.specs.Layout.{block_bytes, content, laid, pieces}
-use Rattle.format.proofs.Pieces.{pieces_none}
-use Rattle.sealed.proofs.Layers.{count_more, drop_further, next_piece}
+use Rattle.format.proofs.Pieces.{length_pieces, pieces_none}
+use Rattle.sealed.proofs.Layers.{drop_further, next_piece}
 use Rattle.sealed.proofs.laying.put_part.Goals as goal
 
 pub loop-k-preserved : goal.loop-k-preserved
@@ -38,7 +38,7 @@ loop-k-preserved c =
           ap (λ (j : ℕ). drop (512 * j) new) next ∙ c.put_block.ensures.back
           ∙ drop_further (512 * (c.args.first + c.loop-k.k-iterator.count)) (512 * (n + 1)) out entry (omega (arith, here)) inv.after
           ∙ sym (ap (λ (j : ℕ). drop (512 * j) entry) next);
-      left = omega (arith, inv.left, ap length joins, count_more piece more size some, went.2);
+      left = omega (arith, inv.left, ap length cut, length_pieces left, length_pieces more, went.2);
       size = went.0.0 ∙ inv.size;
     }
 

@@ -4,7 +4,7 @@ use Rattle.std.proofs.lemmas.Result.{err_from_is_err_and}
 use Rattle.format.specs.Faults.{Previous, is_size_good, kind_in, data_in, previous, previous_at, block_at, fault_of}
 use Rattle.sealed.specs.Reading.{wrong_at}
 use Rattle.sealed.specs.Shapes.{previous_of, shown}
-use Rattle.sealed.proofs.Places.{sized, wrong_block}
+use Rattle.sealed.proofs.Places.{wrong_block}
 use Rattle.sealed.proofs.reader.Reader.next.Goals as goal
 
 -- the block that was cut off the file, and what stands before it
@@ -27,12 +27,6 @@ module _ (file block left : List ℕ) (k : ℕ) (p : Previous) (is_left : left �
 
   next_previous : (q : Previous) → q ≡ previous block → q ≡ previous_at file (k + 1)
   next_previous q said = said ∙ ap previous is_block ∙ sym (ap (previous_at file) (add-one k))
-
-pub overflow_cast-place : goal.overflow_cast-place
-overflow_cast-place c =
-    let self = c.args.self.now in
-    let good = sized self.file.now (sym c.if-not-size_good.ensures) in
-    omega (arith, self.within, good.few)
 
 pub returns-in_err-shape-clause-read : goal.returns-in_err-shape-clause-read
 returns-in_err-shape-clause-read c =
