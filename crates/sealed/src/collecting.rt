@@ -12,6 +12,7 @@ impl Parts {
     fn keep(&mut self, found: Record) -> Result<(), AllocError>
         ensures { OnOk result (Kept self.old found.entry self.new) }
     {
+        // A plain match: which part it belongs to shows only here.
         match found {
             Record::Header(piece) => self.header.extend_from_slice(piece),
             Record::Body(piece) => self.body.extend_from_slice(piece),

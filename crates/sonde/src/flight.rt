@@ -47,7 +47,7 @@ impl Files {
         }
     }
 
-    // Whether the parts of a sealed file are these.
+    // Whether the parts of a sealed file are these. No derive: these are read from two files, and those from one.
     pub(crate) fn are(&self, parts: &Parts) -> bool {
         parts.header == self.header && parts.body == self.body
     }
@@ -65,6 +65,7 @@ pub(crate) struct Flight {
 
 impl Flight {
     fn take_option(&mut self, name: &str, value: &str) -> Result<(), Stop> {
+        // A plain match: which option it is shows only here.
         match name {
             "--polynomial" => self.proposal = Some(Argument::Proposal.parse_block(value)?),
             "--cut" => self.cuts.push(Argument::Number.parse_number(value)?)?,

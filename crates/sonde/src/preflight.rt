@@ -122,6 +122,7 @@ fn blocks_join(message: Message) -> bool {
     let mut header = 0usize;
     let mut body = 0usize;
     for found in Blocks::of(message) {
+        // Not two walks, one for each part: a block says its part only when it is found.
         let end = match found.part {
             Part::Header => &mut header,
             Part::Body => &mut body,

@@ -98,6 +98,7 @@ impl Line {
             return Ok(None);
         }
         let (name, words) = text.split_once(' ').unwrap_or((text, ""));
+        // A plain match: which call it is shows only here.
         let line = match name {
             "header" => Line::Header(piece_words(rt, words)?),
             "body" => Line::Body(piece_words(rt, words)?),
