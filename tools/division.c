@@ -14,7 +14,7 @@ static block masks[DEGREE];    /* all ones where the coefficient is one */
 static uint8_t places[DEGREE]; /* the places of the ones */
 static int weight;
 
-/* As the library does: every coefficient moves up, and a bit is tested for each. */
+/* Every coefficient moves up, and a bit is tested for each. */
 static void by_bits(block *w, block p) {
     w[0] ^= p;
     block top = w[DEGREE - 1], below = 0;
@@ -36,7 +36,7 @@ static void by_masks(block *w, block p) {
     }
 }
 
-/* W in a ring, so that nothing moves; only the places of the ones are touched. */
+/* As the library does: W in a ring, so that nothing moves; only the places of the ones are touched. */
 static unsigned base;
 static void in_ring(block *w, block p) {
     w[base] ^= p;

@@ -1,12 +1,16 @@
--- A step of the division in place is division with remainder.
+-- A step of the division, coefficient by coefficient, is division with remainder.
 use Rattle.std.proofs.Common.{◌≡◌, ℕ, zero, suc, ◌<◌, Bool, true, false, cond, List, [], ◌∷◌, ◌++◌, map, length, get_or, set, sym, refl, ap, ◌∙◌, ap₂, add-one, arith}
 use Rattle.std.specs.List.{range_with_len}
 use Rattle.field.specs.Ring.{CommutativeRing}
 use Rattle.field.specs.declared.element.Element.{Ghosts}
 use Rattle.field.proofs.Horner.{product_zero}
 use Rattle.polynomial.specs.Polynomials.{element, stored}
-use Rattle.engine.specs.Reduction.{reduced}
 use Rattle.engine.specs.Remainders.{sum_of, scaled, times_t, product_of, Divided}
+
+-- each coefficient moves one place up, and `top` is added where the divisor has a one; `below` is the next that moves
+abbrev pub reduced : {K : Type 0} → Ghosts K → K → (ℕ → Bool) → ℕ → K → List K → List K
+reduced m top bits j below [] = []
+reduced m top bits j below (c ∷ cs) = m.sum below (cond (bits j) top m.zero) ∷ reduced m top bits (suc j) c cs
 
 -- the last of b and the elements after it
 abbrev pub last_of : {K : Type 0} → K → List K → K

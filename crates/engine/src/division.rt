@@ -1,33 +1,33 @@
 // The division engine: W, a polynomial in t of degree below 128 with blocks as coefficients, stands for its value at H.
 ghost use Rattle.std.specs.Prelude.{◌≡◌, false};
-ghost use Rattle.field.specs.Kinds.{block_ring};
-ghost use Rattle.engine.specs.Divisions.{division_value, DivisionAbsorbed, resumed_at};
+ghost use Rattle.engine.specs.Divisions.{Born, DivisionAbsorbed, DivisionResumed, division_value};
 
+use crate::divisor::Divisor;
 use crate::engine::Engine;
-use crate::reduce::{absorb_into, constant, value_at};
+use crate::ring::Ring;
 use field::{Block, Element};
 use polynomial::Accepted;
 use refusal::Refusal;
 
 #[derive(Drop)]
 pub struct Division {
-    pub(crate) polynomial: Accepted<Block>,
-    pub(crate) state: [Block; 128],
+    pub(crate) divisor: Divisor,
+    pub(crate) ring: Ring,
 }
 
 impl Division {
     pub fn new(polynomial: Accepted<Block>) -> Division
-        ensures { result ≡ resumed_at polynomial block_ring.zero }
+        ensures { Born polynomial result }
     {
         Division {
-            polynomial,
-            state: constant(Block::zero()),
+            divisor: Divisor::new(polynomial),
+            ring: Ring::constant(Block::zero()),
         }
     }
 }
 
 impl Engine for Division {
-    ghost subkey_of = { λ d. d.polynomial.subkey };
+    ghost subkey_of = { λ d. d.divisor.polynomial.subkey };
 
     ghost value_of = { division_value };
 
@@ -35,16 +35,16 @@ impl Engine for Division {
 
     ghost absorbed = { DivisionAbsorbed };
 
-    ghost resumed = { λ d v e. e ≡ resumed_at d.polynomial v };
+    ghost resumed = { DivisionResumed };
 
     ghost switched = { λ d accepted e. (accepted ≡ false) × (e ≡ d) };
 
     fn subkey(&self) -> Block {
-        self.polynomial.subkey()
+        self.divisor.polynomial.subkey()
     }
 
     fn value(&self) -> Block {
-        value_at(self.polynomial.subkey(), &self.state)
+        self.ring.value_at(self.divisor.polynomial.subkey())
     }
 
     // Alone, it has nothing to switch to. Written here, like `switch`, since no default body holds of every engine.
@@ -53,11 +53,11 @@ impl Engine for Division {
     }
 
     fn absorb(&mut self, block: Block) {
-        absorb_into(&mut self.state, self.polynomial.coefficients(), block);
+        self.ring.absorb(&self.divisor, block);
     }
 
     fn resume(&mut self, value: Block) {
-        self.state = constant(value);
+        self.ring = Ring::constant(value);
     }
 
     fn switch(&mut self) -> Result<(), Refusal> {

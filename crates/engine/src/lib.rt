@@ -2,9 +2,11 @@
 #![tactic(auto)]
 
 mod division;
+mod divisor;
 mod engine;
 mod pair;
 mod reduce;
+mod ring;
 mod step;
 
 pub use division::Division;

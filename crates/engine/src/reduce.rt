@@ -1,60 +1,66 @@
-// Steps of a division over a lent row of coefficients. The row is changed while the divisor is read, so each is lent apart.
-ghost use Rattle.std.specs.Prelude.{◌≡◌, [], ◌∷◌, ◌++◌, replicate, if◌then◌else◌};
+// Steps of a division, over W in a ring.
+ghost use Rattle.std.specs.Prelude.{◌≡◌, ℕ, ◌<◌, fold, length, reverse, slice_index};
 ghost use Rattle.field.specs.Kinds.{block_ring};
-ghost use Rattle.polynomial.specs.Blocks.{coefficients_of};
-ghost use Rattle.polynomial.specs.Polynomials.{stored, value_at};
-ghost use Rattle.engine.specs.Reduction.{reduced};
-ghost use Rattle.engine.specs.Remainders.{Divided, sum_of, times_t};
+ghost use Rattle.polynomial.specs.Polynomials.{value_at};
+ghost use Rattle.engine.specs.Divisions.{Constant, Reduced, row_of, turned};
+ghost use Rattle.engine.specs.Places.{added};
 
+use crate::divisor::Divisor;
+use crate::ring::Ring;
 use field::{Block, Element};
-use polynomial::Binary;
 
-// The block where the coefficient is one, else zero.
-fn chosen(coefficients: Block, j: usize, block: Block) -> Block
-    ensures { result ≡ (if coefficients_of coefficients j then block else block_ring.zero) }
+// The value at a key of these coefficients, from the highest down, where those above them have the value `above`.
+fn value_above(key: Block, coefficients: &[Block], above: Block) -> Block
+    ensures { result ≡ fold (λ s c. block_ring.sum c (block_ring.product key s)) above (reverse coefficients.now) }
 {
-    if coefficients.bit(j) {
-        block
-    } else {
-        Block::zero()
-    }
-}
-
-// Moves every coefficient one place up and takes the highest off by the divisor.
-fn divide(state: &mut [Block], coefficients: Block, top: Block)
-    ensures { state.new ≡ reduced block_ring top (coefficients_of coefficients) 0 block_ring.zero state.old }
-{
-    let mut below = Block::zero();
-    for (j, coefficient) in state.iter_mut().enumerate() {
-        let here = *coefficient;
-        *coefficient = below.plus(chosen(coefficients, j, top));
-        below = here;
-    }
-}
-
-// The value at a key, from the highest coefficient down.
-pub(crate) fn value_at(key: Block, state: &[Block]) -> Block
-    ensures { result ≡ value_at block_ring key state.now }
-{
-    state.iter().rev().fold(Block::zero(), |sum, coefficient| {
+    coefficients.iter().rev().fold(above, |sum, coefficient| {
         coefficient.plus(key.times(sum))
     })
 }
 
-// Replaces W by the remainder of t·(W + block) under division by the polynomial with these coefficients.
-pub(crate) fn absorb_into(state: &mut [Block; 128], coefficients: Block, block: Block)
-    ensures { Divided block_ring (times_t block_ring (sum_of block_ring state.old (block ∷ []))) (stored block_ring 128 (coefficients_of coefficients) ++ (block_ring.one ∷ [])) state.new 128 }
-{
-    state[0] = state[0].plus(block);
-    let top = state[127];
-    divide(state, coefficients, top);
-}
+impl Ring {
+    // The constant polynomial.
+    pub(crate) fn constant(value: Block) -> Ring
+        ensures { Constant value result }
+    {
+        let mut state = [Block::zero(); 128];
+        state[0] = value;
+        Ring { state, base: 0 }
+    }
 
-// The constant polynomial.
-pub(crate) fn constant(value: Block) -> [Block; 128]
-    ensures { result ≡ value ∷ replicate 127 block_ring.zero }
-{
-    let mut state = [Block::zero(); 128];
-    state[0] = value;
-    state
+    // The value at a key, from the highest coefficient down. Not one fold over a chain of both parts: tried, and it did not prove.
+    pub(crate) fn value_at(&self, key: Block) -> Block
+        ensures { result ≡ value_at block_ring key (row_of self.now) }
+    {
+        let (high, low) = self.state.split_at(self.base);
+        let above = value_above(key, high, Block::zero());
+        value_above(key, low, above)
+    }
+
+    // Adds a block at each of these places of W. `% 128` is a mask; two runs, up to the end and on from 0, were no faster.
+    fn add_at(&mut self, places: &[u8], block: Block)
+        requires { (k : ℕ) → k < length places.now → slice_index places.now k < 128 }
+        ensures row { row_of self.new ≡ added block_ring block places.now (row_of self.old) }
+        ensures base { self.new.base ≡ self.old.base }
+    {
+        let base = self.base;
+        for &place in places {
+            let at = (base + usize::from(place)) % 128;
+            self.state[at] = self.state[at].plus(block);
+        }
+    }
+
+    // Replaces W by the remainder of t·(W + block) under division.
+    pub(crate) fn absorb(&mut self, divisor: &Divisor, block: Block)
+        ensures divided { Reduced divisor.now.polynomial self.old block self.new }
+        ensures turn { self.new.base ≡ turned self.old.base }
+    {
+        let lowest = self.base;
+        self.state[lowest] = self.state[lowest].plus(block);
+        let base = (lowest + 127) % 128;
+        let top = self.state[base];
+        self.state[base] = Block::zero();
+        self.base = base;
+        self.add_at(divisor.places.as_slice(), top);
+    }
 }

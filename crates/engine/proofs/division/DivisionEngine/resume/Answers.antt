@@ -1,16 +1,17 @@
-use Rattle.std.proofs.Common.{refl, ap, ◌∙◌}
+use Rattle.std.proofs.Common.{◌≡◌, List, ◌∷◌, replicate, ap, ap₂, ◌∙◌, append-nil}
 use Rattle.field.specs.Kinds.{block_ring}
+use Rattle.field.specs.declared.kinds.Block.{Block}
 use Rattle.field.specs.Instances.{block_ring_laws}
 use Rattle.polynomial.specs.Polynomials.{value_at}
+use Rattle.engine.specs.Divisions.{row_of}
+use Rattle.engine.specs.Rotation.{rotated}
 use Rattle.engine.proofs.RemainderValues.{alone_value}
 use Rattle.engine.proofs.division.DivisionEngine.resume.Goals as goal
 
-pub returns : goal.returns
-returns c = record {
-  value =
-      ap (value_at block_ring c.args.self.now.polynomial.subkey) c.constant-self.ensures
-      ∙ alone_value block_ring block_ring_laws c.args.self.now.polynomial.subkey c.args.value 127;
-  subkey = refl;
-  ready = refl;
-  whole = λ i. record { polynomial = c.args.self.now.polynomial; state = c.constant-self.ensures i };
-}
+pub returns-clause-value : goal.returns-clause-value
+unfolding rotated
+returns-clause-value c =
+    let h : Block = c.args.self.now.divisor.polynomial.subkey in
+    let row : row_of c.constant-self.result ≡ c.args.value ∷ replicate 127 block_ring.zero =
+    ap₂ (λ (s : List Block) b. rotated b s) c.constant-self.ensures.coefficients c.constant-self.ensures.front ∙ append-nil _ in
+    ap (value_at block_ring h) row ∙ alone_value block_ring block_ring_laws h c.args.value 127
