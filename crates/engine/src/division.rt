@@ -47,7 +47,7 @@ impl Engine for Division {
         value_at(self.polynomial.subkey(), &self.state)
     }
 
-    // Alone, it has nothing to switch to.
+    // Alone, it has nothing to switch to. Written here, like `switch`, since no default body holds of every engine.
     fn ready(&self) -> bool {
         false
     }

@@ -45,7 +45,7 @@ impl Engine for Step {
         self.value
     }
 
-    // Alone, it has nothing to switch to.
+    // Alone, it has nothing to switch to. Written here, like `switch`, since no default body holds of every engine.
     fn ready(&self) -> bool {
         false
     }

@@ -17,7 +17,7 @@ pub const MOST_BLOCKS: usize = 65_536;
 // In bytes.
 pub const LARGEST_FILE: usize = 33_554_432;
 
-// How many blocks a file of a header and a body of these lengths has.
+// How many blocks a file of a header and a body of these lengths has. Two numbers, and no struct: one number is made of both.
 pub fn blocks_for(header: usize, body: usize) -> usize
     ensures { result ≡ blocks_for header body }
 {

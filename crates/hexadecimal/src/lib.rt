@@ -115,7 +115,7 @@ fn value(c: u8) -> u8
     digit(c).unwrap_or(0)
 }
 
-// The number that digits write, the first the highest.
+// The number that digits write, the first the highest. Not `from_str_radix`, which takes a sign too.
 fn number(word: &[u8]) -> u128
     requires { length word.now ≤ 32 }
     ensures { result ≡ number_in word.now }

@@ -34,7 +34,7 @@ impl<E: Engine> Filling<E> {
         }
     }
 
-    // Bytes join those that wait, one by one.
+    // Bytes join those that wait, one by one: `try_extend_from_slice` was tried, and is slower for bytes and for large pieces.
     fn hold(&mut self, piece: &[u8])
         ensures { Cut E.Engine self.old piece.now self.new }
     {

@@ -38,7 +38,7 @@ impl<E: Engine> Filling<E> {
 }
 
 // A whole job: the header's calls, the turn, the body's calls, and the close. Where there is no memory for the answers,
-// nothing is begun, and the engine comes back.
+// nothing is begun, and the engine comes back. The pad stays apart from the engine, since it is used at the close alone.
 pub fn replay<E: Engine>(
     heap: Global,
     engine: E,

@@ -8,7 +8,7 @@ use message::Message;
 use refusal::Refusal;
 use tag::tag_message;
 
-// Looks at both lengths before the output's, and writes only what it accepts.
+// Looks at both lengths before the output's, and writes only what it accepts. Subkey and pad stay apart: the engine takes the first.
 pub(crate) fn seal(
     subkey: Block,
     pad: Block,

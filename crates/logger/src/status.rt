@@ -1,4 +1,4 @@
-// Answers as C has them.
+// Answers as C has them: a number, and no `Result`.
 ghost use Rattle.std.specs.Prelude.{◌≡◌};
 ghost use Rattle.logger.specs.Calls.{number_status};
 

@@ -6,7 +6,7 @@ ghost use Rattle.std.specs.Prelude.{◌≡◌};
 ghost use Rattle.tag.specs.Tags.{check_answer};
 ghost use Rattle.logger.specs.Calls.{Tried, halves, seal_answer, sealed_over, status_of};
 
-// Writes hash and tag to the first 32 bytes of the output.
+// Writes hash and tag to the first 32 bytes of the output. Two numbers for a block, one for the answer: C has no more.
 #[unsafe(no_mangle)]
 pub extern "C" fn sonde_tag(
     subkey_high: u64,
@@ -31,7 +31,7 @@ pub extern "C" fn sonde_tag(
     )
 }
 
-// Compares a given tag, of 4 to 16 bytes, with the beginning of the message's tag.
+// Compares a given tag, of 4 to 16 bytes, with the beginning of the message's tag. Numbers as above.
 #[unsafe(no_mangle)]
 pub extern "C" fn sonde_check_tag(
     subkey_high: u64,
@@ -55,7 +55,7 @@ pub extern "C" fn sonde_check_tag(
     )
 }
 
-// The number of ones of a polynomial that annihilates the subkey.
+// The number of ones of a polynomial that annihilates the subkey. Numbers as above.
 #[unsafe(no_mangle)]
 pub extern "C" fn sonde_try_polynomial(
     subkey_high: u64,

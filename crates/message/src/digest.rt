@@ -28,7 +28,8 @@ impl Message<'_> {
         blocks_in(self.header) as u64 + blocks_in(self.body) as u64 + 1
     }
 
-    // The hash at the subkey, and the tag under the pad: the standard's recursion itself, to which the calls over an engine are compared.
+    // The hash at the subkey, and the tag under the pad, which is for one message alone where the subkey is for many: the standard's
+    // recursion itself, to which the calls over an engine are compared.
     pub fn hash_and_tag(self, subkey: Block, pad: Block) -> Result<Digest, Refusal>
         ensures value { result ≡ answer subkey pad self.entry.header.now self.entry.body.now }
         ensures standard { IfOk result (λ d. MeetsStandard subkey pad self.entry.header.now self.entry.body.now d.hash d.tag) }

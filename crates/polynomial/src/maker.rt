@@ -64,7 +64,7 @@ impl<K: Binary> Scratch<'_, K> {
     }
 }
 
-// The polynomial of all conjugates of the subkey, which annihilates it.
+// The polynomial of all conjugates of the subkey, which annihilates it. The scratch is lent for one call, and goes with no subkey.
 pub fn make_polynomial<K: Binary>(subkey: K, scratch: &mut [K]) -> Result<K, Refusal>
     ensures value { Made K.Element K.Binary.width (length scratch.old) K.Binary.bits subkey result }
     ensures annihilates { IfOk result (λ p. Annihilates K.Element K.Binary.width (K.Binary.bits p) subkey) }

@@ -56,7 +56,7 @@ pub struct Trial<K: Binary> {
     pub weight: u32,
 }
 
-// Accepts a proposal exactly when it annihilates the subkey. The front of the scratch is wiped.
+// Accepts a proposal exactly when it annihilates the subkey. The front of the scratch, lent for this call alone, is wiped.
 pub fn try_polynomial<K: Binary>(
     subkey: K,
     proposal: K,

@@ -70,7 +70,7 @@ fn hash_at_one(message: Message) -> Result<Block, Refusal>
     Ok(message.hash_and_tag(one, one)?.hash)
 }
 
-// The table; the empty message's rows hold at any subkey and under any pad.
+// The table; the empty message's rows hold at any subkey and under any pad, which come apart as in the calls that are read.
 pub fn take_readings(subkey: Block, pad: Block) -> Result<Readings, Refusal>
     ensures table { Table }
     ensures value { result ≡ Ok (expected pad) }

@@ -64,6 +64,7 @@ impl Refusal {
         }
     }
 
+    // The cause alone, which `Display` puts after number and place.
     pub fn text(self) -> &'static str
         ensures { result.now ≡ text_of self }
     {

@@ -15,7 +15,7 @@ use job::Closed;
 use message::block_of;
 use refusal::Refusal;
 
-// The tag that stands in a file's last block.
+// The tag that stands in a file's last block. No `From`: it is read from one place of a whole file.
 fn stored_tag(file: &[u8]) -> Block
     requires { 512 ≤ length file.now }
     ensures { result.bits ≡ numeral 256 (take 16 (drop 6 (drop (length file.now - 512) file.now))) }
@@ -34,7 +34,7 @@ fn compare_tags(stored: Block, tag: Block, lengths: Lengths) -> Result<Lengths, 
     }
 }
 
-// Size, blocks, end and header limit come first; only then is anything hashed.
+// Size, blocks, end and header limit come first; only then is anything hashed. The pad stays apart from the engine, as in a job.
 pub fn check_file<E: Engine>(engine: E, pad: Block, file: &[u8]) -> Checked<E>
     ensures answer { result.answer ≡ verdict (E.subkey_of engine) pad file.now }
     ensures exact { Exact (E.subkey_of engine) pad file.now result.answer }

@@ -12,6 +12,7 @@ use format::Kind;
 use job::{Closed, HeaderJob};
 use message::Message;
 
+// A whole message. The pad stays apart, since a job takes it only at its close.
 pub(crate) fn hash_parts<E: Engine>(engine: E, pad: Block, message: Message) -> Closed<E>
     requires short { length message.header.now ≤ header_limit }
     requires few { length message.body.now ≤ body_limit }

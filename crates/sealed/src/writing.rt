@@ -15,7 +15,7 @@ use job::Closed;
 use message::{Message, Part};
 use refusal::Refusal;
 
-// How many blocks the file has, where it may be written.
+// How many blocks the file has, where it may be written. Three lengths, and no struct of two: one answer is made of all.
 fn count_blocks(header: usize, body: usize, output: usize) -> Result<u32, Refusal>
     ensures { result ≡ room_answer header body output }
 {
@@ -32,7 +32,7 @@ fn count_blocks(header: usize, body: usize, output: usize) -> Result<u32, Refusa
     Ok(blocks as u32)
 }
 
-// Nothing is written, and the engine is not touched, where the answer is a refusal.
+// Nothing is written, and the engine is not touched, where the answer is a refusal. The pad stays apart, as in a job.
 pub fn write_file<E: Engine>(
     engine: E,
     pad: Block,
