@@ -1,7 +1,6 @@
 -- Values of polynomials at a point, from the laws of a commutative ring.
-use Rattle.std.proofs.Common.{◌≡◌, ℕ, zero, suc, ◌+◌, ◌^◌, Bool, true, false, cond, List, [], ◌∷◌, ◌++◌, map, length, sym, ap, ◌∙◌, ap₂, add-zero, add-suc, suc-add, zero-add}
-use Rattle.std.specs.List.{range_with_len}
-use Rattle.std.proofs.lemmas.List.FromFn.{length-map-range_with_len, map-range_with_len_more}
+use Rattle.std.proofs.Common.{◌≡◌, ℕ, zero, suc, ◌+◌, ◌^◌, Bool, true, false, cond, List, [], ◌∷◌, ◌++◌, map, filter, fold, length, sym, ap, ◌∙◌, ap₂, add-zero, add-suc, suc-add, zero-add}
+use Rattle.std.specs.List.{range_with_len, enumerate_from}
 use Rattle.field.specs.Ring.{CommutativeRing}
 use Rattle.field.specs.Evaluation.{power}
 use Rattle.field.specs.declared.element.Element.{Ghosts}
@@ -79,13 +78,24 @@ module _ {K : Type 0} (m : Ghosts K) (laws : CommutativeRing m.zero m.one m.sum 
   chosen true p = one_product p
   chosen false p = zero_product m laws p
 
-  -- a proposal's value, one coefficient more
-  pub stored_more : (bits : ℕ → Bool) (r : K) (k : ℕ)
-      → value_at m r (stored m (k + 1) bits) ≡ m.sum (value_at m r (stored m k bits)) (cond (bits k) (power m r k) m.zero)
+  -- one power more, taken only where its bit is one
+  taken : (b : Bool) (p s v : K) (k : ℕ) (rest : List (ℕ × K)) → ((t : K) → fold (λ t x. m.sum t x.1) t rest ≡ m.sum t v)
+      → fold (λ t x. m.sum t x.1) s (cond b ((k, p) ∷ rest) rest) ≡ m.sum s (m.sum (m.product (element m b) p) v)
+  taken true p s v k rest more = more (m.sum s p) ∙ laws.sum_assoc s p v ∙ ap (λ q. m.sum s (m.sum q v)) (sym (chosen true p))
+  taken false p s v k rest more = more s ∙ ap (m.sum s) (sym (zero_sum m laws v)) ∙ ap (λ q. m.sum s (m.sum q v)) (sym (chosen false p))
+
+  taken_from : (bits : ℕ → Bool) (r : K) (n j : ℕ) (s : K)
+      → fold (λ t x. m.sum t x.1) s (filter (λ x. bits x.0) (enumerate_from j (map (power m r) (range_with_len j n))))
+      ≡ m.sum s (value_from m r j (map (λ k. element m (bits k)) (range_with_len j n)))
+  taken_from bits r zero j s = sym (laws.sum_zero s)
+  taken_from bits r (suc n) j s =
+      let cs : List K = map (λ k. element m (bits k)) (range_with_len (j + 1) n) in
+      taken (bits j) (power m r j) s (value_from m r (suc j) cs) j
+      (filter (λ x. bits x.0) (enumerate_from (j + 1) (map (power m r) (range_with_len (j + 1) n))))
+      (λ t. taken_from bits r n (j + 1) t ∙ ap (λ i. m.sum t (value_from m r i cs)) (add-suc j 0 ∙ ap suc (add-zero j)))
+
+  -- a proposal's value is the sum of the powers where it has a one
+  pub stored_value : (bits : ℕ → Bool) (r : K) (n : ℕ)
+      → fold (λ t x. m.sum t x.1) m.zero (filter (λ x. bits x.0) (enumerate_from 0 (map (power m r) (range_with_len 0 n)))) ≡ value_at m r (stored m n bits)
   unfolding stored
-  stored_more bits r k =
-      let f : ℕ → K = λ n. element m (bits n) in
-      ap (value_at m r) (map-range_with_len_more f 0 k k (zero-add k))
-      ∙ value_push r 0 (map f (range_with_len 0 k)) (f k)
-      ∙ ap (λ n. m.sum (value_at m r (map f (range_with_len 0 k))) (m.product (f k) (power m r n))) (zero-add (length (map f (range_with_len 0 k))) ∙ length-map-range_with_len f 0 k)
-      ∙ ap (m.sum (value_at m r (map f (range_with_len 0 k)))) (chosen (bits k) (power m r k))
+  stored_value bits r n = taken_from bits r n 0 m.zero ∙ zero_sum m laws (value_at m r (stored m n bits))

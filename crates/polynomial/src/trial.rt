@@ -28,13 +28,11 @@ fn fill_powers<E: Element + Copy>(powers: &mut [E], key: E) -> E
 fn sum_powers<K: Binary>(powers: &[K], proposal: K) -> K
     ensures { (key : K) → powers.now ≡ map (power K.Element key) (range_with_len 0 (length powers.now)) → result ≡ value_at K.Element key (stored K.Element (length powers.now) (K.Binary.bits proposal)) }
 {
-    let mut sum = K::zero();
-    for (k, power) in powers.iter().enumerate() {
-        if proposal.bit(k) {
-            sum = sum.plus(*power);
-        }
-    }
-    sum
+    powers
+        .iter()
+        .enumerate()
+        .filter(|(k, _)| proposal.bit(*k))
+        .fold(K::zero(), |sum, (_, power)| sum.plus(*power))
 }
 
 impl<K: Binary> Scratch<'_, K> {
