@@ -1,16 +1,19 @@
 -- Bytes taken two at a time.
-use Rattle.std.proofs.Common.{◌≡◌, ℕ, zero, suc, ◌+◌, ◌*◌, ◌/◌, List, [], ◌∷◌, map, length, get_or, refl, ap, arith}
+use Rattle.std.proofs.Common.{◌≡◌, ℕ, zero, suc, ◌+◌, ◌*◌, ◌/◌, List, [], ◌∷◌, map, length, get_or, fold, refl, arith}
 use Rattle.std.specs.Simd.{first_chunks}
+use Rattle.field.specs.Evaluation.{absorbed}
+use Rattle.field.specs.Kinds.{word, word_ring}
+use Rattle.field.specs.declared.kinds.Word.{Word}
 use Rattle.format.specs.Layout.{pairs}
 
--- the numbers of pieces of two bytes
-abbrev pub numbers : List (List ℕ) → List ℕ
-numbers ps = map (λ (p : List ℕ). get_or p 0 0 * 256 + get_or p 1 0) ps
+-- the number of a piece of two bytes taken in
+abbrev pub with_pair : Word → Word → List ℕ → Word
+with_pair key sum p = word_ring.product (word_ring.sum sum (word (get_or p 0 0 * 256 + get_or p 1 0))) key
 
-pub numbers_cut : (n : ℕ) (bytes : List ℕ) → length bytes / 2 ≡ n → numbers (first_chunks 2 n bytes) ≡ pairs bytes
-numbers_cut zero [] all = refl
-numbers_cut zero (x ∷ []) all = refl
-numbers_cut zero (x ∷ (y ∷ zs)) all = absurd (omega arith)
-numbers_cut (suc n) [] all = absurd (omega arith)
-numbers_cut (suc n) (x ∷ []) all = absurd (omega arith)
-numbers_cut (suc n) (x ∷ (y ∷ zs)) all = ap (λ ns. (x * 256 + y) ∷ ns) (numbers_cut n zs (omega arith))
+pub pairs_folded : (key sum : Word) (n : ℕ) (bytes : List ℕ) → length bytes / 2 ≡ n → fold (with_pair key) sum (first_chunks 2 n bytes) ≡ absorbed word_ring key sum (map word (pairs bytes))
+pairs_folded key sum zero [] all = refl
+pairs_folded key sum zero (x ∷ []) all = refl
+pairs_folded key sum zero (x ∷ (y ∷ zs)) all = absurd (omega arith)
+pairs_folded key sum (suc n) [] all = absurd (omega arith)
+pairs_folded key sum (suc n) (x ∷ []) all = absurd (omega arith)
+pairs_folded key sum (suc n) (x ∷ (y ∷ zs)) all = pairs_folded key (with_pair key sum (x ∷ (y ∷ []))) n zs (omega arith)

@@ -9,11 +9,12 @@ pub fn block_check(bytes: &[u8]) -> u32
     ensures { result ≡ check_of bytes.now }
 {
     let key = Word::new(16_807);
-    let mut sum = Word::zero();
     let (pairs, _odd) = bytes.as_chunks::<2>();
-    for [high, low] in pairs {
-        let number = u16::from_be_bytes([*high, *low]);
-        sum = sum.plus(Word::new(u32::from(number))).times(key);
-    }
-    sum.value()
+    pairs
+        .iter()
+        .fold(Word::zero(), |sum, pair| {
+            let number = u16::from_be_bytes(*pair);
+            sum.plus(Word::new(u32::from(number))).times(key)
+        })
+        .value()
 }

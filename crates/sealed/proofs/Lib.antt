@@ -5,3 +5,4 @@ pub mod Running
 pub mod Scans
 pub mod Verdicts
 pub mod Gathering
+pub mod FoldedScan

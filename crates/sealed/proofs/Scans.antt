@@ -1,14 +1,11 @@
 -- The blocks of a file, one after another.
-use Rattle.std.proofs.Common.{◌≡◌, ℕ, zero, suc, ◌+◌, ◌-◌, ◌*◌, ◌/◌, ◌<◌, ◌≤◌, cond, eqb, List, [], ◌∷◌, ◌++◌, length, get_or, take, drop, take-append-drop, add-one, Some, None, Err, sym, refl, ap, ap₂, ◌∙◌, append_assoc, append-nil, zero-add, arith, length-append}
+use Rattle.std.proofs.Common.{◌≡◌, ℕ, zero, suc, ◌+◌, ◌-◌, ◌*◌, ◌/◌, ◌<◌, ◌≤◌, cond, eqb, List, [], ◌∷◌, ◌++◌, length, get_or, take, drop, take-append-drop, add-one, Some, None, Err, sym, refl, ap, ◌∙◌, append_assoc, append-nil, zero-add, arith, length-append}
 use Rattle.std.proofs.lemmas.Bool.Decides.{nat_tests}
 use Rattle.std.proofs.lemmas.List.{drop-drop, drop_more, take_more, length-drop, length-take, length-take-le}
 use Rattle.std.specs.Simd.{first_chunks}
 use Rattle.refusal.specs.declared.Refusal.{Refusal}
 use Rattle.format.specs.Faults.{Previous, previous, kind_in, used_in, data_in, rows_of, block_at, blocks_of, on_fault, fault_of, scanned, data_of}
-use Rattle.format.specs.Kinds.{number_of}
 use Rattle.sealed.specs.Checking.{data_of_kind}
-use Rattle.sealed.specs.Shapes.{shown}
-use Rattle.sealed.specs.declared.shape.Shape.{Shape}
 use Rattle.sealed.proofs.Places.{block_size}
 
 -- ---- rows
@@ -104,15 +101,6 @@ data_next kind k limit bs d piece less within read =
     let taken : List ℕ = data_of kind (take k bs) in
     let joins : taken ++ piece ≡ data_of kind (take (k + 1) bs) = ap (λ (xs : List ℕ). taken ++ xs) read ∙ sym (data_on kind k bs d less) in
     (omega (arith, ap length joins, length-append taken piece, data_upto kind (k + 1) bs, within), joins)
-
--- how many bytes of a kind there are after one block more
-pub count_on : (kind k count : ℕ) (bs : List (List ℕ)) (d : List ℕ) (s : Shape) → k < length bs → length (get_or bs k d) ≡ 512 → shown s ≡ previous (get_or bs k d)
-    → count ≡ length (data_of kind (take k bs)) → count + cond (eqb (number_of s.kind) kind) s.used 0 ≡ length (data_of kind (take (k + 1) bs))
-count_on kind k count bs d s less size said so_far =
-    let used : s.used ≡ used_in (get_or bs k d) = ap (λ (p : Previous). p.used) said in
-    ap₂ (λ (x y : ℕ). x + y) so_far
-    (ap (λ (p : Previous). cond (eqb p.kind kind) p.used 0) said ∙ sym (data_length kind (get_or bs k d) size (omega (arith, used, s.short))))
-    ∙ sym (ap length (data_on kind k bs d less) ∙ length-append (data_of kind (take k bs)) (data_of_kind kind (get_or bs k d)))
 
 -- all data is within the file
 pub data_in_file : (kind : ℕ) (file : List ℕ) → length (data_of kind (blocks_of file)) ≤ length file

@@ -39,17 +39,20 @@ fn scan_blocks(file: &[u8]) -> Result<Scan, Refusal>
     requires { is_size_good file.now ≡ true }
     ensures { Scanned file.now result }
 {
-    let mut scan = Scan {
+    let start = Scan {
         last: None,
         header: 0,
         body: 0,
     };
     let (blocks, _rest) = file.as_chunks::<BLOCK_BYTES>();
-    for (k, block) in blocks.iter().enumerate() {
-        let shape = check_block(block, k as u32, scan.last)?;
-        scan.add(shape);
-    }
-    Ok(scan)
+    blocks
+        .iter()
+        .enumerate()
+        .try_fold(start, |mut scan, (k, block)| {
+            let shape = check_block(block, k as u32, scan.last)?;
+            scan.add(shape);
+            Ok(scan)
+        })
 }
 
 // All that can be said of a file without its key.

@@ -31,26 +31,30 @@ fn print_step(
     }
 }
 
-// Each answer of a part, and the count of bytes that were taken.
+// How many bytes of a part were taken.
+fn taken(steps: &[Step], answers: &[Result<(), Refusal>]) -> u64 {
+    let taken = steps.iter().zip(answers).filter(|(_, answer)| answer.is_ok());
+    taken.fold(0u64, |sum, (step, _)| sum.saturating_add(step.bytes()))
+}
+
+// Each answer of a part, in turn.
 fn print_part(
     rt: &HostRuntime,
     part: Part,
     steps: &[Step],
     answers: &[Result<(), Refusal>],
-) -> io::Result<u64> {
-    let mut taken = 0u64;
+) -> io::Result<()> {
     for (step, answer) in steps.iter().zip(answers) {
         print_step(rt, part, step, answer)?;
-        if answer.is_ok() {
-            taken = taken.saturating_add(step.bytes());
-        }
     }
-    Ok(taken)
+    Ok(())
 }
 
 fn print_replay(rt: &HostRuntime, script: &Script, done: &Replayed<Engines>) -> io::Result<()> {
-    let header = print_part(rt, Part::Header, &script.header, &done.header)?;
-    let body = print_part(rt, Part::Body, &script.body, &done.body)?;
+    print_part(rt, Part::Header, &script.header, &done.header)?;
+    print_part(rt, Part::Body, &script.body, &done.body)?;
+    let header = taken(&script.header, &done.header);
+    let body = taken(&script.body, &done.body);
     let running = match done.closed.engine.running() {
         Side::First => "step",
         Side::Second => "division",

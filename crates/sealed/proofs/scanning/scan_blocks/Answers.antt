@@ -1,62 +1,60 @@
-use Rattle.std.proofs.Common.{ℕ, ◌+◌, List, length, drop, sym, ap, ◌∙◌, arith}
+use Rattle.std.proofs.Common.{◌≡◌, ℕ, ◌<◌, ◌≤◌, List, length, arith, rules, refl, sym, subst, ap, ap₂, ◌∙◌, Some, Ok, Bor}
+use Rattle.std.proofs.lemmas.Fn.{serves_by, chained_keeps}
 use Rattle.std.proofs.lemmas.List.{at_drop_all, take_all}
-use Rattle.std.proofs.lemmas.Result.{err_from_is_err_and}
-use Rattle.format.specs.Faults.{Previous, first, scanned, data_of}
+use Rattle.std.proofs.lemmas.List.FromFn.{length-enumerate_from}
+use Rattle.format.specs.Faults.{Previous, first, fault_of, scanned, data_of}
 use Rattle.sealed.specs.Shapes.{previous_of}
+use Rattle.sealed.specs.Checking.{Scanned}
 use Rattle.sealed.specs.declared.scanning.Scan.{Scan}
+use Rattle.std.proofs.lemmas.Iterator.{YieldsList, YieldsList-from_slice}
+use Rattle.std.proofs.lemmas.Iterator.Consumers.{YieldsList-from_enumerate, YieldsList-turn, YieldsList-so_far, YieldsList-end}
+use Rattle.std.specs.List.{enumerate_from}
 use Rattle.sealed.proofs.Places.{sized}
-use Rattle.sealed.proofs.Scans.{chunk_size, chunks_are, count_on, data_in_file, data_upto, scan_ends, scan_more}
+use Rattle.sealed.proofs.Scans.{chunks_are, data_in_file, data_upto, scan_ends}
+use Rattle.sealed.proofs.FoldedScan.{SoFar, so_far_keeps, placed, upto, by_option, by_result}
 use Rattle.sealed.proofs.scanning.scan_blocks.Goals as goal
 
-pub returns-in_err-shape : goal.returns-in_err-shape
-returns-in_err-shape c =
-    let p = err_from_is_err_and c.from_residual.result c.from_residual.ensures.1 in
-    let bs = c.as_chunks.result.0.now in
-    let last : Previous = previous_of c.loop-k.scan.last in
-    rw (p.1, p.2)
-    (ap (scanned 0 first) (sym (chunks_are c.args.file.now bs c.as_chunks.ensures.front)) ∙ c.loop-k.invariant.scan
-    ∙ scan_ends c.loop-k.k last bs _ _ c.loop-k-test.true c.in_err-shape.ensures)
-
-pub add-requires : goal.add-requires
-add-requires c =
+pub try_fold-requires-clause-callable : goal.try_fold-requires-clause-callable
+try_fold-requires-clause-callable c =
     let file : List ℕ = c.args.file.now in
-    let bs = c.as_chunks.result.0.now in
-    let k : ℕ = c.loop-k.k in
+    let bs : List (List ℕ) = c.as_chunks.result.0.now in
+    let chain : YieldsList _ (λ (p : ℕ × Bor (List ℕ)). (p.0, p.1.now)) c.enumerate.result (enumerate_from 0 bs) = YieldsList-from_enumerate (YieldsList-from_slice bs (cc)) (cc) in
+    serves_by _ (SoFar bs) (λ xs q x w j r. so_far_keeps file bs c.as_chunks.ensures.front c.as_chunks.ensures.front_len xs q x w j (let a : r.0 ≡ Ok w.1 = search rules in search (rules, a))) _ _ _ _ (λ more e. record { scan = refl; header = refl; body = refl }) (λ xs t q x u y s j.
+    let k : ℕ = length xs in
+    let p = placed bs k x (YieldsList-turn chain xs t y _ u x refl s) in
+    let m = upto bs xs q j (YieldsList-so_far chain xs t y) in
     let good = sized file c.requires in
     let all = chunks_are file bs c.as_chunks.ensures.front in
-    let inv = c.loop-k.invariant in
-    record {
-      header = omega (arith, inv.header, data_upto 1 k bs, ap (λ cs. length (data_of 1 cs)) all, data_in_file 1 file, good.few);
-      body = omega (arith, inv.body, data_upto 2 k bs, ap (λ cs. length (data_of 2 cs)) all, data_in_file 2 file, good.few);
-    }
-
-pub loop-k-preserved : goal.loop-k-preserved
-loop-k-preserved c =
-    let bs = c.as_chunks.result.0.now in
-    let k : ℕ = c.loop-k.k in
-    let last : Previous = previous_of c.loop-k.scan.last in
-    let inv = c.loop-k.invariant in
-    let less = c.loop-k-test.true in
-    let said = c.in_ok-shape.ensures.1 in
-    let added = c.add.ensures in
-    let size = chunk_size c.args.file.now bs k _ c.as_chunks.ensures.front (omega (arith, less, c.as_chunks.ensures.front_len)) in
-    record {
-      scan =
-          inv.scan ∙ scan_more k last bs _ less c.in_ok-shape.ensures.0
-          ∙ ap (λ (q : Previous). scanned (k + 1) q (drop (k + 1) bs)) (sym (ap (λ (s : Scan). previous_of s.last) added ∙ said));
-      header = ap (λ (s : Scan). s.header) added ∙ count_on 1 k c.loop-k.scan.header bs _ c.in_ok-shape.shape less size said inv.header;
-      body = ap (λ (s : Scan). s.body) added ∙ count_on 2 k c.loop-k.scan.body bs _ c.in_ok-shape.shape less size said inv.body;
-    }
+    let small : x.0 < 65536 = omega (arith, p.0, p.1, c.as_chunks.ensures.front_len, good.few) in
+    let header : q.1.header ≤ 33554432 = omega (arith, m.header, data_upto 1 k bs, ap (λ cs. length (data_of 1 cs)) all, data_in_file 1 file, good.few) in
+    let body : q.1.body ≤ 33554432 = omega (arith, m.body, data_upto 2 k bs, ap (λ cs. length (data_of 2 cs)) all, data_in_file 2 file, good.few) in
+    search (rules, small, header, body))
 
 pub returns : goal.returns
 returns c =
-    let bs = c.as_chunks.result.0.now in
-    let k : ℕ = c.loop-k.k in
-    let last : Previous = previous_of c.loop-k.scan.last in
-    let inv = c.loop-k.invariant in
-    let all = sym (chunks_are c.args.file.now bs c.as_chunks.ensures.front) in
-    let end = take_all k bs (omega arith) ∙ sym all in (
-      ap (scanned 0 first) all ∙ inv.scan ∙ at_drop_all (scanned k last) bs k (omega arith),
-      inv.header ∙ ap (λ cs. length (data_of 1 cs)) end,
-      inv.body ∙ ap (λ cs. length (data_of 2 cs)) end,
-    )
+    let bs : List (List ℕ) = c.as_chunks.result.0.now in
+    let file : List ℕ = c.args.file.now in
+    let ran = c.try_fold.ensures.ran in
+    let xs = ran.0 in
+    let turns = ran.4 in
+    let a : Scan = ran.3 in
+    let k : ℕ = length xs in
+    let last : Previous = previous_of a.last in
+    let chain : YieldsList _ (λ (p : ℕ × Bor (List ℕ)). (p.0, p.1.now)) c.enumerate.result (enumerate_from 0 bs) = YieldsList-from_enumerate (YieldsList-from_slice bs (cc)) (cc) in
+    let so : SoFar bs xs (ran.2, a) = chained_keeps _ (SoFar bs) (λ xs q x w j r. so_far_keeps file bs c.as_chunks.ensures.front c.as_chunks.ensures.front_len xs q x w j (let a : r.0 ≡ Ok w.1 = search rules in search (rules, a))) xs _ _ (λ more e. record { scan = refl; header = refl; body = refl }) ran.5 in
+    let m = upto bs xs (ran.2, a) so (YieldsList-so_far chain xs turns.0 turns.1) in
+    let all = sym (chunks_are file bs c.as_chunks.ensures.front) in
+    by_option ran.1 ran.6
+    (λ none done.
+    let e : c.try_fold.result ≡ Ok a = search rules in
+    let long : k ≡ length bs = (YieldsList-end chain xs turns.0 turns.1 ran.1 _ none turns.2).1 ∙ length-enumerate_from 0 bs in
+    let end = take_all k bs (omega (arith, long)) ∙ sym all in
+    subst (Scanned file) (sym e) (
+      ap (scanned 0 first) all ∙ m.scan ∙ at_drop_all (scanned k last) bs k (omega (arith, long)),
+      m.header ∙ ap (λ cs. length (data_of 1 cs)) end,
+      m.body ∙ ap (λ cs. length (data_of 2 cs)) end,
+    ))
+    (λ x some broke. by_result c.try_fold.result (λ z is. absurd (search (rules, is))) (λ z is.
+    let bad : fault_of x.0 last x.1.now ≡ Some z = search (rules, is) in
+    let p = placed bs k x (YieldsList-turn chain xs turns.0 turns.1 ran.1 _ x some turns.2) in
+    subst (Scanned file) (sym is) (ap (scanned 0 first) all ∙ m.scan ∙ scan_ends k last bs x.1.now z p.0 (ap₂ (λ n b. fault_of n last b) (sym p.1) (sym p.2) ∙ bad))))
