@@ -57,7 +57,7 @@ impl Engine for Division {
     }
 
     fn resume(&mut self, value: Block) {
-        self.ring = Ring::constant(value);
+        self.ring.restart(value);
     }
 
     fn switch(&mut self) -> Result<(), Refusal> {

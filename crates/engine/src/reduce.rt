@@ -23,9 +23,21 @@ impl Ring {
     pub(crate) fn constant(value: Block) -> Ring
         ensures { Constant value result }
     {
-        let mut state = [Block::zero(); 128];
-        state[0] = value;
-        Ring { state, base: 0 }
+        let mut ring = Ring {
+            state: [Block::zero(); 128],
+            base: 0,
+        };
+        ring.restart(value);
+        ring
+    }
+
+    // W becomes the constant polynomial in place, so that no whole ring is moved.
+    pub(crate) fn restart(&mut self, value: Block)
+        ensures { Constant value self.new }
+    {
+        self.state.fill(Block::zero());
+        self.state[0] = value;
+        self.base = 0;
     }
 
     // The value at a key, from the highest coefficient down. Not one fold over a chain of both parts: tried, and it did not prove.

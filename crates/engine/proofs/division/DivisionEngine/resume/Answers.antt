@@ -12,6 +12,6 @@ pub returns-clause-value : goal.returns-clause-value
 unfolding rotated
 returns-clause-value c =
     let h : Block = c.args.self.now.divisor.polynomial.subkey in
-    let row : row_of c.constant-self.result ≡ c.args.value ∷ replicate 127 block_ring.zero =
-    ap₂ (λ (s : List Block) b. rotated b s) c.constant-self.ensures.coefficients c.constant-self.ensures.front ∙ append-nil _ in
+    let row : row_of c.restart.new.self ≡ c.args.value ∷ replicate 127 block_ring.zero =
+    ap₂ (λ (s : List Block) b. rotated b s) c.restart.ensures.coefficients c.restart.ensures.front ∙ append-nil _ in
     ap (value_at block_ring h) row ∙ alone_value block_ring block_ring_laws h c.args.value 127
