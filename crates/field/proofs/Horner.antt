@@ -46,7 +46,8 @@ module _ {R : Type 0} (m : Ghosts R) (laws : CommutativeRing m.zero m.one m.sum 
       ∙ absorbed_eval r (ps ++ (q ∷ [])) qs
       ∙ ap (eval m r) (append_assoc ps (q ∷ []) qs)
 
-  fold_absorbed : (r v : R) (ps : List R) → fold (λ w p. m.product (m.sum w p) r) v ps ≡ absorbed m r v ps
+  -- a fold takes the items in
+  pub fold_absorbed : (r v : R) (ps : List R) → fold (λ w p. m.product (m.sum w p) r) v ps ≡ absorbed m r v ps
   fold_absorbed r v [] = refl
   fold_absorbed r v (p ∷ ps) = fold_absorbed r (m.product (m.sum v p) r) ps
 
