@@ -25,6 +25,7 @@ fn divide(state: &mut [Block], coefficients: Block, top: Block)
     ensures { state.new ≡ reduced block_ring top (coefficients_of coefficients) 0 block_ring.zero state.old }
 {
     let mut below = Block::zero();
+    // No fold: each step writes a coefficient, and hands on what stood there.
     for (j, coefficient) in state.iter_mut().enumerate() {
         let here = *coefficient;
         *coefficient = below.plus(chosen(coefficients, j, top));
