@@ -13,6 +13,7 @@ const BYTES: usize = 16 * 1536;
 fn body() -> [u8; BYTES] {
     let mut bytes = [0u8; BYTES];
     let mut next = 1u8;
+    // No fold: each step writes a byte and hands the next one on.
     for byte in &mut bytes {
         *byte = next;
         next = next.wrapping_mul(5).wrapping_add(3);

@@ -1,6 +1,5 @@
 -- Horner's rule, from the laws of a commutative ring.
-use Rattle.std.proofs.Common.{◌≡◌, ℕ, suc, ◌+◌, ◌<◌, List, [], ◌∷◌, ◌++◌, length, get_or, take, sym, refl, ap, ◌∙◌, ap₂, append_assoc, append-nil, add-one, length-append}
-use Rattle.std.proofs.lemmas.List.{take_more}
+use Rattle.std.proofs.Common.{◌≡◌, suc, List, [], ◌∷◌, ◌++◌, fold, length, sym, refl, ap, ◌∙◌, ap₂, append_assoc, append-nil, add-one, length-append}
 use Rattle.field.specs.Ring.{CommutativeRing}
 use Rattle.field.specs.Evaluation.{power, eval, absorbed}
 use Rattle.field.specs.declared.element.Element.{Ghosts}
@@ -35,13 +34,6 @@ module _ {R : Type 0} (m : Ghosts R) (laws : CommutativeRing m.zero m.one m.sum 
       ∙ ap (λ n. m.product p (m.product r (power m r n))) (sym longer))
       (sym (eval_push r ps q)))
 
-  -- one item more of a list that is walked through
-  pub eval_next : (r : R) (xs : List R) (i : ℕ) (x : R) → i < length xs → x ≡ get_or xs i x
-      → m.product (m.sum (eval m r (take i xs)) x) r ≡ eval m r (take (i + 1) xs)
-  eval_next r xs i x within read =
-      let pushed : take (i + 1) xs ≡ take i xs ++ (x ∷ []) = take_more xs i x within ∙ ap (λ y. take i xs ++ (y ∷ [])) (sym read) in
-      sym (eval_push r (take i xs) x) ∙ ap (eval m r) (sym pushed)
-
   pub absorbed_append : (r v : R) (ps qs : List R) → absorbed m r v (ps ++ qs) ≡ absorbed m r (absorbed m r v ps) qs
   absorbed_append r v [] qs = refl
   absorbed_append r v (p ∷ ps) qs = absorbed_append r (m.product (m.sum v p) r) ps qs
@@ -53,6 +45,15 @@ module _ {R : Type 0} (m : Ghosts R) (laws : CommutativeRing m.zero m.one m.sum 
       ap (λ v. absorbed m r v qs) (sym (eval_push r ps q))
       ∙ absorbed_eval r (ps ++ (q ∷ [])) qs
       ∙ ap (eval m r) (append_assoc ps (q ∷ []) qs)
+
+  -- a fold takes the items in
+  pub fold_absorbed : (r v : R) (ps : List R) → fold (λ w p. m.product (m.sum w p) r) v ps ≡ absorbed m r v ps
+  fold_absorbed r v [] = refl
+  fold_absorbed r v (p ∷ ps) = fold_absorbed r (m.product (m.sum v p) r) ps
+
+  -- items taken in one by one from zero on make one evaluation
+  pub fold_eval : (r : R) (ps : List R) → fold (λ w p. m.product (m.sum w p) r) m.zero ps ≡ eval m r ps
+  fold_eval r ps = fold_absorbed r m.zero ps ∙ absorbed_eval r [] ps
 
   pub product_zero : (x : R) → m.product x m.zero ≡ m.zero
   product_zero x =

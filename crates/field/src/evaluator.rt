@@ -8,10 +8,7 @@ use crate::element::Element;
 pub fn evaluate<E: Element + Copy>(key: E, items: &[E]) -> E
     ensures { result ≡ eval E.Element key items.now }
 {
-    let mut sum = E::zero();
-    // No fold: it was tried, and the search does not see through a closure over a generic kind.
-    for item in items {
-        sum = sum.plus(*item).times(key);
-    }
-    sum
+    items
+        .iter()
+        .fold(E::zero(), |sum, item| sum.plus(*item).times(key))
 }

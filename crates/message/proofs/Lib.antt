@@ -1,5 +1,6 @@
 pub mod Within
 pub mod Cutting
+pub mod Pieces
 pub mod Finding
 pub mod Strings
 pub mod StandardProduct

@@ -23,12 +23,10 @@ pub fn block_of(piece: &[u8]) -> Block
 pub(crate) fn absorb_part(subkey: Block, start: Block, part: &[u8]) -> Block
     ensures { result ≡ absorbed block_ring subkey start (blocks part.now) }
 {
-    let mut value = start;
-    // No fold: it was tried, and the search does not tie a run over the chunks to the blocks of the part.
-    for piece in part.chunks(16) {
-        value = value.plus(block_of(piece)).times(subkey);
-    }
-    value
+    part.chunks(16).fold(
+        start,
+        |value, piece| value.plus(block_of(piece)).times(subkey),
+    )
 }
 
 // How many blocks of 16 bytes a part takes.

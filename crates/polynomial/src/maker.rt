@@ -15,6 +15,7 @@ fn multiply<E: Element + Copy>(coefficients: &mut [E], root: E) -> E
     ensures { coefficients.new ++ (result ∷ []) ≡ raised E.Element root E.Element.zero coefficients.old E.Element.one }
 {
     let mut below = E::zero();
+    // No fold: each step writes a coefficient, and hands on what stood there.
     for coefficient in coefficients.iter_mut() {
         let here = *coefficient;
         *coefficient = below.plus(root.times(here));
@@ -41,6 +42,7 @@ fn read_bits<K: Binary>(coefficients: &[K]) -> Option<K>
     ensures { MatchOption result (SomeNeither K.Element coefficients.now) (λ p. stored K.Element (length coefficients.now) (K.Binary.bits p) ≡ coefficients.now) }
 {
     let mut proposal = K::zero();
+    // No `try_fold`: it would hold both questions in its closure, and the three cases show no better.
     for (k, coefficient) in coefficients.iter().enumerate() {
         if !coefficient.is_zero() {
             if !coefficient.plus(K::one()).is_zero() {

@@ -1,5 +1,5 @@
 -- Bytes compared by the bits in which they differ.
-use Rattle.std.proofs.Common.{◌≡◌, ℕ, Bool, true, false, ◌&&◌, eqb, List, ◌∷◌, length, take, sym, refl, ap, ◌∙◌, ap₂, arith, eq-eqb, ne_eqb, eqb-true}
+use Rattle.std.proofs.Common.{◌≡◌, ◌≤◌, ℕ, Bool, true, false, ◌&&◌, eqb, List, [], ◌∷◌, fold, zip, length, take, refl, ap, ◌∙◌, ap₂, arith, rules, eq-eqb, ne_eqb, eqb-true}
 use borrow.Author.Tests.{eqb-false}
 use lib.Bits.{bit_or, bit_xor, and_le_l, and_le_r, or_add_and, xor_add_and, xor_self, or_zero_l}
 use Rattle.std.specs.Str.{bytes_eq}
@@ -29,7 +29,12 @@ one_more d x y rest = by_tests (eqb d 0) (eqb x y) refl refl where
   by_tests true false zero other = ap (λ (t : Bool). t && rest) (ne_eqb (bit_or d (bit_xor x y)) 0 (λ e. eqb-false x y other (no_bits d x y e).1))
   by_tests false q some other = ap (λ (t : Bool). t && rest) (ne_eqb (bit_or d (bit_xor x y)) 0 (λ e. eqb-false d 0 some (no_bits d x y e).0))
 
--- one more byte of each list
-pub step_on : (d x y : ℕ) (us vs xs ys : List ℕ) → us ≡ x ∷ xs → vs ≡ y ∷ ys
-    → (eqb (bit_or d (bit_xor x y)) 0 && begun xs ys) ≡ (eqb d 0 && begun us vs)
-step_on d x y us vs xs ys p q = one_more d x y (begun xs ys) ∙ ap₂ (λ (ps qs : List ℕ). eqb d 0 && begun ps qs) (sym p) (sym q)
+-- the bits in which bytes have differed, after one more pair
+abbrev pub with_pair : ℕ → ℕ × ℕ → ℕ
+with_pair d p = bit_or d (bit_xor p.0 p.1)
+
+-- no bit is left where the second list begins with the first
+pub gathered : (d : ℕ) (xs ys : List ℕ) → length xs ≤ length ys → eqb (fold with_pair d (zip xs ys)) 0 ≡ (eqb d 0 && begun xs ys)
+gathered d [] ys enough = search rules
+gathered d (x ∷ xs) [] enough = absurd (omega arith)
+gathered d (x ∷ xs) (y ∷ ys) enough = gathered (bit_or d (bit_xor x y)) xs ys (omega arith) ∙ one_more d x y (begun xs ys)

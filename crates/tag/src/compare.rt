@@ -7,10 +7,7 @@ pub(crate) fn begins_with(tag: [u8; 16], given: &[u8]) -> bool
     requires { length given.now ≤ 16 }
     ensures { result ≡ bytes_eq given.now (take (length given.now) tag) }
 {
-    // No fold: it was tried, and of a zip's run only the two projections are told, which the search does not join to pairs.
-    let mut difference = 0u8;
-    for (a, b) in given.iter().zip(tag.iter()) {
-        difference |= a ^ b;
-    }
+    let pairs = given.iter().zip(tag.iter());
+    let difference = pairs.fold(0, |difference, (a, b)| difference | (a ^ b));
     difference == 0
 }

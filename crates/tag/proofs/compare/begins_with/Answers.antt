@@ -1,12 +1,17 @@
-use Rattle.std.proofs.Common.{ap, length, ◌∙◌, arith}
-use Rattle.tag.proofs.Comparing.{step_on}
+use Rattle.std.proofs.Common.{◌≡◌, ℕ, List, eqb, fold, zip, ap, ◌∙◌, rules}
+use Rattle.std.proofs.lemmas.Iterator.{YieldsList-from_slice, YieldsList-from_zip}
+use Rattle.std.proofs.lemmas.Iterator.Consumers.{YieldsList-at, fold_from_yields_List}
+use Rattle.tag.proofs.Comparing.{with_pair, gathered}
 use Rattle.tag.proofs.compare.begins_with.Goals as goal
 
-pub loop-a-preserved : goal.loop-a-preserved
-loop-a-preserved c =
-    let went = c.in-Some.ensures.steps in
-    let enough = c.loop-a.invariant.enough in
-    record {
-      same = step_on c.loop-a.difference c.in-Some.a.now c.in-Some.b.now _ _ _ _ went.0 went.1 ∙ c.loop-a.invariant.same;
-      enough = omega (arith, ap length went.0, ap length went.1, enough);
-    }
+pub returns : goal.returns
+returns c =
+    let given : List ℕ = c.args.given.now in
+    let tag : List ℕ = c.args.tag in
+    let folded : c.fold-difference.result ≡ fold with_pair 0 (zip given tag) =
+    fold_from_yields_List _ with_pair _ _ c.fold-difference.ensures.ran
+    (YieldsList-from_zip
+    (YieldsList-at c.zip-pairs.ensures.first (YieldsList-from_slice given c.iter.ensures.rest))
+    (YieldsList-at c.zip-pairs.ensures.second (YieldsList-from_slice tag c.iter-2.ensures.rest)))
+    (λ d p r q k. search rules) in
+    ap (λ (d : ℕ). eqb d 0) folded ∙ gathered 0 given tag (search rules)
