@@ -58,3 +58,15 @@ pub(crate) fn engines(rt: &HostRuntime, count: u32) -> anyhow::Result<()> {
     }
     Ok(())
 }
+
+// An absorb alone, in a row so long that reading T at its end costs nothing.
+pub(crate) fn absorbs(rt: &HostRuntime, count: u32) -> anyhow::Result<()> {
+    let by_step = measure(rt, &mut Step::new(key()), count, 1)?;
+    let by_division = measure(rt, &mut Division::new(accepted()?), count, 1)?;
+    println!(rt; "proved, step: {} ns an absorb", by_step.each_of(count))?;
+    println!(rt;
+        "proved, division: {} ns an absorb",
+        by_division.each_of(count)
+    )?;
+    Ok(())
+}

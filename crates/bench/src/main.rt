@@ -7,7 +7,7 @@ mod jobs;
 mod timing;
 
 use anyhow::anyhow;
-use engines::{engines, key};
+use engines::{absorbs, engines, key};
 use field::{Block, Element};
 use files::files;
 use jobs::jobs;
@@ -15,10 +15,9 @@ use polynomial::{make_polynomial, try_polynomial};
 use std::env;
 use timing::{time, time_tries};
 
-// The words `jobs` and `files` print tables too (docs/SPEED.md).
-const USAGE: &str = "usage: bench product|trial|maker|engines COUNT
-prints nanoseconds a block product, a trial or a making, over COUNT of them,
-or a table of the engines' times a block, each row over COUNT hashes";
+const USAGE: &str = "usage: bench product|trial|maker|absorb|engines|jobs|files COUNT
+prints nanoseconds a block product, a trial, a making or an absorb, over COUNT of them,
+or a table of the engines' times a block, of a job's or of a sealed file's, each row over COUNT hashes";
 
 // A chain of products, each from the one before, so that none can be left out.
 fn product(rt: &HostRuntime, count: u32) -> anyhow::Result<()> {
@@ -72,6 +71,7 @@ fn run(rt: &HostRuntime) -> anyhow::Result<()> {
         "product" => product(rt, count),
         "trial" => tries(rt, count, "trial", "accepted", accepts),
         "maker" => tries(rt, count, "making", "made", makes),
+        "absorb" => absorbs(rt, count),
         "engines" => engines(rt, count),
         "jobs" => jobs(rt, count),
         "files" => files(rt, count),
