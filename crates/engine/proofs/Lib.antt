@@ -3,3 +3,4 @@ pub mod Subkeys
 pub mod RemainderValues
 pub mod Reductions
 pub mod HashedRows
+pub mod Reducing
