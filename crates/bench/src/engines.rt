@@ -37,6 +37,7 @@ fn measure<E: Engine>(
 // A polynomial that the key annihilates. A function here, since the library keeps no scratch of its own.
 pub(crate) fn accepted() -> anyhow::Result<Accepted<Block>> {
     let mut scratch = [Block::zero(); 128];
+    // The text is the one that was always printed.
     Accepted::make(key(), &mut scratch).map_err(|_| anyhow!("no polynomial"))
 }
 

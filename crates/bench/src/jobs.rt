@@ -8,7 +8,7 @@ use message::block_of_byte_counts;
 
 const BLOCKS: u32 = 1536;
 
-const BYTES: usize = 16 * 1536;
+const BYTES: usize = 16 * BLOCKS as usize;
 
 fn body() -> [u8; BYTES] {
     let mut bytes = [0u8; BYTES];

@@ -59,6 +59,7 @@ fn tries<F: FnMut() -> bool>(
     Ok(())
 }
 
+// Runtime and count go apart, here and below: each loop takes both, and a struct of the two would say no more.
 fn run(rt: &HostRuntime) -> anyhow::Result<()> {
     let words: Vec<String> = env::args(rt)?.collect(rt.alloc())?;
     let [_, what, count] = words.as_slice() else {

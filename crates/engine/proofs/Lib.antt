@@ -6,3 +6,4 @@ pub mod Rotations
 pub mod Additions
 pub mod Absorptions
 pub mod HashedRows
+pub mod Reducing

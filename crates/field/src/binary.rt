@@ -20,7 +20,7 @@ pub(crate) trait Polynomial {
     // How many coefficients a polynomial has.
     const WIDTH: u32;
 
-    // The coefficient of x^k.
+    // The coefficient of x^k. A number and no `bool`: it makes a mask, since no branch may stand on a bit.
     fn coefficient(number: u128, k: u32) -> u128
         requires { k < kind.width }
         ensures bit { result < 2 }

@@ -56,6 +56,7 @@ impl fmt::Display for Block {
     ghost output = { λ block. Some (block_text block) };
 
     fn fmt<W: fmt::Write>(&self, f: &mut fmt::Formatter<W>) -> fmt::Result {
+        // In halves: one format of 128 bits was tried, and its digits did not prove.
         let high = (self.bits >> 64) as u64;
         let low = (self.bits % (1 << 64)) as u64;
         write!(f, "{high:016x}{low:016x}")

@@ -85,7 +85,7 @@ fn bad_place(word: &[u8]) -> Option<usize>
     word.iter().position(|c| digit(*c).is_none())
 }
 
-// Refuses the first byte that is no digit.
+// Refuses the first byte that is no digit. No `From`: a place is a fault only here.
 fn check_digits(word: &[u8]) -> Result<(), HexFault>
     ensures { result ≡ unless_bad (first_bad word.now) tt }
 {

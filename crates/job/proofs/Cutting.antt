@@ -63,10 +63,6 @@ pub left_none : (xs : List ℕ) → length xs ≡ 16 → left_over xs ≡ []
 unfolding left_over
 left_none xs sixteen = drop_all _ xs (omega arith)
 
-pub length_left : (xs : List ℕ) → length (left_over xs) ≡ length xs % 16
-unfolding left_over
-length_left xs = length-drop (16 * (length xs / 16)) xs ∙ omega arith
-
 -- the bytes that wait at the end of a part
 pub last_block : (xs : List ℕ) → 0 < length xs → length xs ≤ 16 → blocks xs ≡ block_of (filled (take 16 xs)) ∷ []
 unfolding blocks

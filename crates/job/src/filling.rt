@@ -34,7 +34,8 @@ impl<E: Engine> Filling<E> {
         }
     }
 
-    // Bytes join those that wait, one by one: `try_extend_from_slice` was tried, and is slower for bytes and for large pieces.
+    // Bytes join those that wait, one by one. `try_extend_from_slice` was tried, and is no plainer: it answers a fault that no caller
+    // can have, and asks of callers that the piece has room.
     fn hold(&mut self, piece: &[u8])
         ensures { Cut E.Engine self.old piece.now self.new }
     {

@@ -13,7 +13,8 @@ use refusal::Refusal;
 use std::alloc::Global;
 
 impl<E: Engine> Filling<E> {
-    // A match and no closures: calls are values that come from a list, and these are their two kinds.
+    // A match and no closures: calls are values that come from a list, and these are their two kinds. That the part stays is said of
+    // two states of a filling, which the invariant of one does not say.
     fn answer(&mut self, call: &Call) -> Result<(), Refusal>
         ensures part { self.new.part ≡ self.old.part }
         ensures answered { (h : Block) (given : Bool) (before : List Block) (taken : List ℕ) → Holds E.Engine h given before self.old taken → Answered E.Engine h given before self.old taken (call.now ∷ []) (result ∷ []) self.new }
@@ -31,6 +32,7 @@ impl<E: Engine> Filling<E> {
         ensures part { self.new.part ≡ self.old.part }
         ensures answered { (h : Block) (given : Bool) (before : List Block) (taken : List ℕ) → Holds E.Engine h given before self.old taken → Answered E.Engine h given before self.old taken calls.now answers.new.items self.new }
     {
+        // No `collect`: the room for both lists is there before anything is begun.
         for call in calls {
             answers.push_reserved(self.answer(call));
         }
@@ -48,6 +50,7 @@ pub fn replay<E: Engine>(
 ) -> Result<Replayed<E>, E>
     ensures { MatchResult result (λ done. Replays E.Engine engine pad header.now body.now done) (λ e. e ≡ engine) }
 {
+    // No `?`: what comes back is the engine, and not the error.
     let Ok(mut header_answers) = Vec::with_capacity(heap, header.len()) else {
         return Err(engine);
     };

@@ -12,7 +12,7 @@ use field::{Block, Element};
 use message::Message;
 use tag::check_tag;
 
-// Writes hash and tag to the first 32 bytes of the output.
+// Writes hash and tag to the first 32 bytes of the output. Two numbers for a block and one for the answer: C has no more.
 pub fn sonde_tag(
     subkey_high: u64,
     subkey_low: u64,
@@ -30,7 +30,7 @@ pub fn sonde_tag(
     status(seal(subkey, pad, Message { header, body }, output).map(|()| 0))
 }
 
-// Compares a given tag, of 4 to 16 bytes, with the beginning of the message's tag.
+// Compares a given tag, of 4 to 16 bytes, with the beginning of the message's tag. Numbers as above, for C.
 pub fn sonde_check_tag(
     subkey_high: u64,
     subkey_low: u64,
@@ -48,7 +48,7 @@ pub fn sonde_check_tag(
     status(check_tag(&mut engine, pad, message, tag).map(|()| 0))
 }
 
-// The number of ones of a polynomial that annihilates the subkey.
+// The number of ones of a polynomial that annihilates the subkey. Numbers as above, for C.
 pub fn sonde_try_polynomial(
     subkey_high: u64,
     subkey_low: u64,

@@ -8,7 +8,7 @@ use field::Block;
 use polynomial::try_polynomial;
 use refusal::Refusal;
 
-// The weight of a proposal that annihilates.
+// The weight of a proposal that annihilates. The scratch is lent for this call alone, so that it goes with no subkey.
 pub(crate) fn try_in(subkey: Block, proposal: Block, scratch: &mut [Block]) -> Result<u8, Refusal>
     requires { 128 ≤ length scratch.old }
     ensures value { Weighed subkey proposal result }

@@ -4,7 +4,7 @@ ghost use Rattle.logger.specs.Calls.{number_status};
 
 use refusal::Refusal;
 
-// The number that is answered, or the refusal's number below zero.
+// The number that is answered, or the refusal's number below zero: C has no `Result`.
 pub(crate) fn status(answer: Result<u8, Refusal>) -> i32
     ensures { result ≡ number_status answer }
 {

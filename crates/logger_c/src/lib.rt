@@ -7,6 +7,7 @@ ghost use Rattle.tag.specs.Tags.{check_answer};
 ghost use Rattle.logger.specs.Calls.{Tried, halves, seal_answer, sealed_over, status_of};
 
 // Writes hash and tag to the first 32 bytes of the output. Two numbers for a block, one for the answer: C has no more.
+// It only hands on, like the two below: C names stand here alone.
 #[unsafe(no_mangle)]
 pub extern "C" fn sonde_tag(
     subkey_high: u64,

@@ -71,9 +71,6 @@ module _ (header body : List ℕ) where
   pub place_in_body : (n : ℕ) → in_header ≤ n → n < in_header + in_body → place_of header body n ≡ Some (Body, 16 * (n - in_header))
   place_in_body n past below = cond-false _ _ _ (le-ltb n in_header past) ∙ cond-true _ _ _ (lt-ltb n (in_header + in_body) below)
 
-  pub no_place : (n : ℕ) → in_header + in_body ≤ n → place_of header body n ≡ None
-  no_place n past = cond-false _ _ _ (le-ltb n in_header (omega arith)) ∙ cond-false _ _ _ (le-ltb n (in_header + in_body) past)
-
   abbrev found : ℕ → List ℕ
   found n = bytes_at header body (place_of header body n)
 

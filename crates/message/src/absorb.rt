@@ -19,7 +19,7 @@ pub fn block_of(piece: &[u8]) -> Block
     Block::from_bytes(bytes)
 }
 
-// The value after the blocks of one part, each taken in by (value + block)·subkey.
+// The value after the blocks of one part, each taken in by (value + block)·subkey: the recursion itself, to which engines are held.
 pub(crate) fn absorb_part(subkey: Block, start: Block, part: &[u8]) -> Block
     ensures { result ≡ absorbed block_ring subkey start (blocks part.now) }
 {
@@ -36,7 +36,7 @@ pub(crate) fn blocks_in(part: &[u8]) -> usize
     part.len().div_ceil(16)
 }
 
-// Both lengths, handed in bytes, in bits, the header's in the higher half.
+// Both lengths, handed in bytes, in bits, the header's in the higher half. Two numbers, and no struct: one block is made of both.
 pub fn block_of_byte_counts(header: u64, body: u64) -> Block
     ensures { result ≡ block_of_counts header body }
 {

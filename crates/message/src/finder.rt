@@ -14,7 +14,7 @@ pub struct Found<'a> {
     pub offset: usize,
 }
 
-// Block k of one part: 16 bytes, or those that are left.
+// Block k of one part: 16 bytes, or those that are left. Not `chunks(16).nth(k)`, which answers an `Option` that is never none here.
 fn block_at<'a>(part: Part, bytes: &'a [u8], k: usize) -> Found<'a>
     requires { k < blocks_taken (length bytes.now) }
     ensures part { result.part ≡ part }

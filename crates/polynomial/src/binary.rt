@@ -22,6 +22,7 @@ pub trait Binary: Element + Copy {
     fn flip(self, k: usize) -> Self
         ensures { (j : ℕ) → bits result j ≡ flipped width (bits self) k j };
 
+    // No default, nor has `weight`: it would ask every kind for equality and for its bits as a number.
     fn is_zero(self) -> bool
         ensures { MatchBool result (self ≡ Self.Element.zero) (self ≢ Self.Element.zero) };
 

@@ -82,7 +82,7 @@ pub fn make_polynomial<K: Binary>(subkey: K, scratch: &mut [K]) -> Result<K, Ref
 }
 
 impl<K: Binary> Accepted<K> {
-    // The maker's polynomial. It annihilates the subkey, so that no trial has to follow.
+    // The maker's polynomial. It annihilates the subkey, so that no trial has to follow. The scratch is lent for one call, as above.
     pub fn make(subkey: K, scratch: &mut [K]) -> Result<Accepted<K>, Refusal>
         ensures value { AcceptedMade K.Binary.own K.Element (length scratch.old) subkey result }
         ensures scratch { scratch.new ≡ scratch_after K.Element K.Binary.width scratch.old }

@@ -16,9 +16,7 @@ pub(crate) struct Scratch<'a, K: Binary> {
 fn clear<E: Element + Copy>(elements: &mut [E])
     ensures { elements.new ≡ replicate (length elements.old) E.Element.zero }
 {
-    for element in elements.iter_mut() {
-        *element = E::zero();
-    }
+    elements.fill_with(|| E::zero());
 }
 
 impl<K: Binary> Drop for Scratch<'_, K> {

@@ -17,7 +17,7 @@ fn fill_powers<E: Element + Copy>(powers: &mut [E], key: E) -> E
     ensures powers { powers.new ≡ map (power E.Element key) (range_with_len 0 (length powers.old)) }
 {
     let mut next = E::one();
-    // No fold: each step writes a power and hands the next one on, so a fold would hide the write in its closure.
+    // No fold and no `fill_with`: each step writes a power and hands the next one on, which a closure would hide.
     for power in powers.iter_mut() {
         *power = next;
         next = key.times(next);

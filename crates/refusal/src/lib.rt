@@ -64,7 +64,7 @@ impl Refusal {
         }
     }
 
-    // The cause alone, which `Display` puts after number and place.
+    // The cause alone, which `Display` puts after number and place. No derive: the words are pinned to a definition.
     pub fn text(self) -> &'static str
         ensures { result.now ≡ text_of self }
     {
@@ -87,7 +87,7 @@ impl Refusal {
         }
     }
 
-    // The block that is named, from 0, or the count of blocks where the end is missing.
+    // The block that is named, from 0, or the count of blocks where the end is missing. No derive: only some causes have one.
     pub fn place(self) -> Option<u32>
         ensures { result ≡ place_of self }
     {

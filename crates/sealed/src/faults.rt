@@ -48,9 +48,7 @@ fn shape_of(block: &[u8; BLOCK_BYTES], prefix: Prefix) -> Option<Shape>
     requires { prefix ≡ prefix_in block.now }
     ensures { Formed block.now result }
 {
-    let Ok(kind) = Kind::try_from(prefix.kind) else {
-        return None;
-    };
+    let kind = Kind::try_from(prefix.kind).ok()?;
     let used = prefix.used;
     if prefix.reserve != 0
         || !used_fits(kind, used)

@@ -24,7 +24,7 @@ pub(crate) trait Takes {
     ghost begins: { (first : Self) → fed first [] first };
 }
 
-// Nothing is refused, since all together is within the limit.
+// Nothing is refused, since all together is within the limit. One for each type of job, since a state is a type.
 impl<E: Engine> Takes for HeaderJob<E> {
     ghost limit = { header_limit };
 

@@ -10,6 +10,7 @@ pub struct Handed<E, T> {
     pub answer: Result<T, Refusal>,
 }
 
+// No `Digest`: that counts the blocks that are hashed, and this those of the file.
 #[derive(Clone, Copy, PartialEq, Eq, Debug)]
 pub struct Sealed {
     pub blocks: u32,

@@ -14,7 +14,7 @@ pub(crate) struct Prefix {
     pub(crate) used: usize,
 }
 
-// The six bytes by name.
+// The six bytes by name. No `From`: a block is more than its prefix.
 pub(crate) fn read_prefix(block: &[u8; BLOCK_BYTES]) -> Prefix
     ensures { result ≡ prefix_in block.now }
 {

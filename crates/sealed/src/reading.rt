@@ -18,6 +18,7 @@ pub(crate) fn size_good(file: &[u8]) -> bool
     file.len() % BLOCK_BYTES == 0 && BLOCK_BYTES <= file.len() && file.len() <= LARGEST_FILE
 }
 
+// No `From`: a record needs its data too.
 fn record_of<'a>(kind: Kind, data: &'a [u8]) -> Record<'a>
     ensures kind { kind_of result ≡ number_of kind }
     ensures bytes { data_held result ≡ «data».now }

@@ -10,7 +10,7 @@ use format::{BLOCK_BYTES, Kind, Lengths};
 use message::Part;
 use refusal::Refusal;
 
-// The last block, and how many bytes of data the blocks of each part have.
+// The last block, and how many bytes of data the blocks of each part have. No `Lengths` yet: those are of a file that is accepted.
 #[derive(Clone, Copy)]
 pub(crate) struct Scan {
     pub(crate) last: Option<Shape>,
@@ -26,6 +26,7 @@ impl Scan {
     {
         self.last = Some(block);
         let used = block.used as u64;
+        // A plain match: which kind it is shows only here.
         match block.kind {
             Kind::Header => self.header += used,
             Kind::Body => self.body += used,

@@ -31,7 +31,7 @@ fn print_step(
     }
 }
 
-// How many bytes of a part were taken.
+// How many bytes of a part were taken. Steps and answers stand apart, since the library answers by a list of its own.
 fn taken(steps: &[Step], answers: &[Result<(), Refusal>]) -> u64 {
     let taken = steps
         .iter()
@@ -58,6 +58,7 @@ fn print_replay(rt: &HostRuntime, script: &Script, done: &Replayed<Engines>) -> 
     print_part(rt, Part::Body, &script.body, &done.body)?;
     let header = taken(&script.header, &done.header);
     let body = taken(&script.body, &done.body);
+    // A plain match: what the program calls the two sides is no business of the library.
     let running = match done.closed.engine.running() {
         Side::First => "step",
         Side::Second => "division",

@@ -75,6 +75,7 @@ pub(crate) fn check_sealed(rt: &HostRuntime, words: &[String]) -> Result<(), Sto
 }
 
 fn print_record(rt: &HostRuntime, place: u32, record: Record) -> Result<(), Stop> {
+    // A plain match: which record it is shows only here.
     match record {
         Record::Header(data) => println!(rt; "block {place}: header, {} bytes", data.len())?,
         Record::Body(data) => println!(rt; "block {place}: body, {} bytes", data.len())?,

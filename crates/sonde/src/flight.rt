@@ -25,7 +25,7 @@ impl Key {
     }
 }
 
-// The two files of a message.
+// The two files of a message. No `Parts`: those come of a sealed file.
 #[derive(Drop)]
 pub(crate) struct Files {
     pub(crate) header: Vec<u8>,
@@ -86,6 +86,7 @@ impl Flight {
             proposal: None,
             cuts: Vec::new(rt.alloc()),
         };
+        // No fold: each option changes the flight, and may be wrong.
         for option in options.chunks(2) {
             let [name, value] = option else {
                 return Err(Stop::NoOption);

@@ -36,7 +36,7 @@ fn try_flight(rt: &HostRuntime, flight: &Flight) -> Result<Accepted<Block>, Stop
     Ok(trial.polynomial)
 }
 
-// A job with the body cut in two, and a switch asked for between.
+// A job with the body cut in two, and a switch asked for between. The pad stays apart from the engine, as in a job.
 fn cut_job<E: Engine + Drop>(
     engine: E,
     pad: Block,
@@ -122,7 +122,8 @@ fn blocks_join(message: Message) -> bool {
     let mut header = 0usize;
     let mut body = 0usize;
     for found in Blocks::of(message) {
-        // Not two walks, one for each part: a block says its part only when it is found.
+        // Not two walks, one for each part, since a block says its part only when it is found; and no `try_fold`, which would carry
+        // both ends and the part through its closure.
         let end = match found.part {
             Part::Header => &mut header,
             Part::Body => &mut body,

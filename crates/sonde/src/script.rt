@@ -33,6 +33,7 @@ pub(crate) enum LineFault {
     NoMemory(#[from(alloc)] AllocError),
 }
 
+// No `Option` of a piece: a switch is a call, and no piece that is missing.
 #[derive(Drop)]
 pub(crate) enum Asked {
     Feed(Vec<u8>),
@@ -58,7 +59,7 @@ impl Step {
         }
     }
 
-    // How many bytes it feeds.
+    // How many bytes it feeds. No `From` here and above: a step is more than its call.
     pub(crate) fn bytes(&self) -> u64 {
         match &self.asked {
             Asked::Feed(piece) => piece.len() as u64,
@@ -80,6 +81,7 @@ enum Line {
 // The bytes of the words that follow a feed's name, joined: hexadecimal digits, or `@` and the name of a file.
 fn piece_words(rt: &HostRuntime, words: &str) -> Result<Vec<u8>, LineFault> {
     let mut piece = Vec::new(rt.alloc());
+    // No `try_fold`: each step may fail in three ways, and joins what it read to the piece.
     for word in words.split_whitespace() {
         let bytes = match word.strip_prefix('@') {
             Some(name) => fs::read(rt, name)?,
@@ -128,7 +130,7 @@ pub(crate) struct Script {
 }
 
 impl Script {
-    // What the line asks, where it may stand there.
+    // What the line asks, where it may stand there. A plain match: both are known only at run time.
     fn take(&mut self, number: usize, line: Line) -> Result<(), LineFault> {
         match (self.stage, line) {
             (Stage::Header, Line::Header(piece)) => self
@@ -164,7 +166,7 @@ impl Script {
             body: Vec::new(rt.alloc()),
             stage: Stage::Header,
         };
-        // Lines are counted from 1.
+        // Lines are counted from 1. No fold: each line changes the script, and may be wrong.
         for (line, text) in (1usize..).zip(text.lines()) {
             script
                 .take_text(rt, line, text)

@@ -22,6 +22,7 @@ pub(crate) enum Argument {
     Out,
 }
 
+// By hand: the derive of `Error` is for faults, and an argument is none.
 impl fmt::Display for Argument {
     fn fmt<W: fmt::Write>(&self, f: &mut fmt::Formatter<W>) -> fmt::Result {
         f.write_str(match self {
@@ -46,6 +47,7 @@ pub(crate) enum BadWord {
     Bytes(HexFault),
 }
 
+// By hand: one part of the text stands with some faults only.
 impl fmt::Display for BadWord {
     fn fmt<W: fmt::Write>(&self, f: &mut fmt::Formatter<W>) -> fmt::Result {
         let (fault, wanted) = match self {

@@ -21,7 +21,7 @@ impl Argument {
         })
     }
 
-    // A word of any even count of digits.
+    // A word of any even count of digits. Not one with the above: the fault says which of the two was wanted.
     pub(crate) fn parse_bytes(self, rt: &HostRuntime, word: &str) -> Result<Vec<u8>, Stop> {
         parse_bytes(rt.alloc(), word).map_err(|fault| Stop::BadHex {
             argument: self,
@@ -47,7 +47,7 @@ impl Argument {
         fs::read(rt, path).map_err(|error| self.no_file(error))
     }
 
-    // A file's text.
+    // A file's text. Not one with the above: it is checked to be text.
     pub(crate) fn read_text(self, rt: &HostRuntime, path: &str) -> Result<String, Stop> {
         fs::read_to_string(rt, path).map_err(|error| self.no_file(error))
     }

@@ -32,7 +32,7 @@ pub fn tag_message<E: Engine>(
     })
 }
 
-// Accepts 4 to 16 bytes that the tag of the header and the body begins with.
+// Accepts 4 to 16 bytes that the tag of the header and the body begins with. The pad stays apart from the engine, as above.
 pub fn check_tag<E: Engine>(
     engine: &mut E,
     pad: Block,

@@ -60,6 +60,7 @@ pub(crate) fn compare(rt: &HostRuntime, line: &str, more: bool) -> Result<bool, 
     )?;
     print_made(rt, case.subkey)?;
     print_engines(rt, &case, digest.hash)?;
+    // What is asked for is known only at run time.
     if more {
         print_jobs(rt, &case, parse_block(tag)?)?;
     }

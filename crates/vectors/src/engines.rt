@@ -11,6 +11,7 @@ use std::iter;
 // The hash of some blocks, with a switch asked for after every `every` of them.
 pub(crate) fn hash<E: Engine>(engine: &mut E, blocks: &[Block], every: usize) -> Block {
     engine.resume(Block::zero());
+    // No `chunks(every)`: after a last piece that is shorter no switch is asked for.
     for (at, block) in blocks.iter().enumerate() {
         engine.absorb(*block);
         if at.saturating_add(1).is_multiple_of(every) {

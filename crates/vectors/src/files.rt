@@ -10,7 +10,7 @@ use std::alloc::Global;
 // The largest body of a file with no header: 65,535 full blocks.
 const LARGEST_BODY: usize = (MOST_BLOCKS - 1) * DATA_BYTES;
 
-// The blocks of the file that seals so many zeros, once it was checked.
+// The blocks of the file that seals so many zeros, once it was checked. Two lengths, and no struct: two rows of zeros are made of them.
 fn sealed_blocks(heap: Global, header: usize, body: usize) -> Result<u32, Fault> {
     let header = vec![in heap; 0u8; header]?;
     let body = vec![in heap; 0u8; body]?;
@@ -21,6 +21,7 @@ fn sealed_blocks(heap: Global, header: usize, body: usize) -> Result<u32, Fault>
         body: &body,
     };
     let sealed = write_file(step, Block::zero(), message, &mut file).answer?;
+    // How much of the largest file it is, which the writer answers in blocks.
     let size = (sealed.blocks as usize)
         .saturating_mul(BLOCK_BYTES)
         .min(LARGEST_FILE);

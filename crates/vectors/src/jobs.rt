@@ -87,6 +87,7 @@ pub(crate) fn print_jobs(rt: &HostRuntime, case: &Case, tag: Block) -> Result<()
     let heap = rt.alloc();
     let polynomial = accepted(case.subkey)?;
     let mut agree = case.difference_agrees(heap)?;
+    // No `all`: each cut may fail for want of memory.
     for cut in CUTS {
         let pad = case.pad;
         let feeding = Feeding { heap, cut, pad };

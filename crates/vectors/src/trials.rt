@@ -22,7 +22,7 @@ impl NibbleTrial {
     fn plain_value(self) -> Nibble {
         let mut power = Nibble::one();
         let mut sum = Nibble::zero();
-        // The number is the power, no index.
+        // By the bits of a number, which nothing hands out one by one; plain, since it is what the trial is compared with.
         for k in 0..4u8 {
             if (self.proposal.bits() >> k) & 1 == 1 {
                 sum = sum.plus(power);
