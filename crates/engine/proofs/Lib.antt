@@ -6,4 +6,3 @@ pub mod Rotations
 pub mod Additions
 pub mod Absorptions
 pub mod HashedRows
-pub mod Reducing
