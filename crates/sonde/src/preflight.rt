@@ -146,10 +146,13 @@ fn cut_flight(rt: &HostRuntime, flight: &Flight, tag: Block) -> Result<(), Stop>
     let length = message.body.len();
     let near = [0..FRONT + 1, around(length / 2), around(length)];
     let given = flight.cuts.iter().map(|at| *at..at.saturating_add(1));
-    let cuts = near.into_iter().chain(given).try_fold(0usize, |cuts, range| -> Result<usize, Stop> {
-        Check::CutPastEnd.holds(range.start <= length)?;
-        Ok(cuts.saturating_add(try_cuts(flight, tag, range)?))
-    })?;
+    let cuts = near
+        .into_iter()
+        .chain(given)
+        .try_fold(0usize, |cuts, range| -> Result<usize, Stop> {
+            Check::CutPastEnd.holds(range.start <= length)?;
+            Ok(cuts.saturating_add(try_cuts(flight, tag, range)?))
+        })?;
     Check::Finder.holds(blocks_join(message))?;
     println!(rt; "3 edges of the segments: ok, {cuts} cuts, each block in one segment")?;
     Ok(())
