@@ -55,6 +55,7 @@ fn print_part(
 
 fn print_replay(rt: &HostRuntime, script: &Script, done: &Replayed<Engines>) -> io::Result<()> {
     print_part(rt, Part::Header, &script.header, &done.header)?;
+    println!(rt; "line {}: turn: accepted", script.turn)?;
     print_part(rt, Part::Body, &script.body, &done.body)?;
     let header = taken(&script.header, &done.header);
     let body = taken(&script.body, &done.body);

@@ -114,22 +114,23 @@ impl Line {
     }
 }
 
-// How far the lines have come.
-#[derive(Clone, Copy, PartialEq, Eq)]
+// How far the lines have come, past the turn with its line.
+#[derive(Clone, Copy)]
 enum Stage {
     Header,
-    Body,
-    Closed,
+    Body { turn: usize },
+    Closed { turn: usize },
 }
 
+// The steps of the lines so far.
 #[derive(Drop)]
-pub(crate) struct Script {
-    pub(crate) header: Vec<Step>,
-    pub(crate) body: Vec<Step>,
+struct Reading {
+    header: Vec<Step>,
+    body: Vec<Step>,
     stage: Stage,
 }
 
-impl Script {
+impl Reading {
     // What the line asks, where it may stand there. A plain match: both are known only at run time.
     fn take(&mut self, number: usize, line: Line) -> Result<(), LineFault> {
         match (self.stage, line) {
@@ -137,17 +138,17 @@ impl Script {
                 .header
                 .push(Step::new(number, Asked::Feed(piece)))?,
             (Stage::Header, Line::Switch) => self.header.push(Step::new(number, Asked::Switch))?,
-            (Stage::Header, Line::Turn) => self.stage = Stage::Body,
+            (Stage::Header, Line::Turn) => self.stage = Stage::Body { turn: number },
             (Stage::Header, Line::Body(_)) => return Err(LineFault::BodyBeforeTurn),
             (Stage::Header, Line::Close) => return Err(LineFault::CloseBeforeTurn),
-            (Stage::Body, Line::Header(_)) => return Err(LineFault::HeaderAfterTurn),
-            (Stage::Body, Line::Switch) => self.body.push(Step::new(number, Asked::Switch))?,
-            (Stage::Body, Line::Turn) => return Err(LineFault::SecondTurn),
-            (Stage::Body, Line::Body(piece)) => self
+            (Stage::Body { .. }, Line::Header(_)) => return Err(LineFault::HeaderAfterTurn),
+            (Stage::Body { .. }, Line::Switch) => self.body.push(Step::new(number, Asked::Switch))?,
+            (Stage::Body { .. }, Line::Turn) => return Err(LineFault::SecondTurn),
+            (Stage::Body { .. }, Line::Body(piece)) => self
                 .body
                 .push(Step::new(number, Asked::Feed(piece)))?,
-            (Stage::Body, Line::Close) => self.stage = Stage::Closed,
-            (Stage::Closed, _) => return Err(LineFault::AfterClose),
+            (Stage::Body { turn }, Line::Close) => self.stage = Stage::Closed { turn },
+            (Stage::Closed { .. }, _) => return Err(LineFault::AfterClose),
         }
         Ok(())
     }
@@ -158,26 +159,42 @@ impl Script {
             None => Ok(()),
         }
     }
+}
 
+// A script that is whole.
+#[derive(Drop)]
+pub(crate) struct Script {
+    pub(crate) header: Vec<Step>,
+    // The turn's line.
+    pub(crate) turn: usize,
+    pub(crate) body: Vec<Step>,
+}
+
+impl Script {
     // The whole script, or the first line that is wrong; nothing is run yet.
     pub(crate) fn read(rt: &HostRuntime, text: &str) -> Result<Script, Stop> {
-        let mut script = Script {
+        let mut reading = Reading {
             header: Vec::new(rt.alloc()),
             body: Vec::new(rt.alloc()),
             stage: Stage::Header,
         };
         // Lines are counted from 1. No fold: each line changes the script, and may be wrong.
         for (line, text) in (1usize..).zip(text.lines()) {
-            script
+            reading
                 .take_text(rt, line, text)
                 .map_err(|fault| Stop::BadLine { line, fault })?;
         }
-        if script.stage != Stage::Closed {
+        let Reading {
+            header,
+            body,
+            stage,
+        } = reading;
+        let Stage::Closed { turn } = stage else {
             return Err(Stop::BadLine {
                 line: text.lines().count(),
                 fault: LineFault::NoClose,
             });
-        }
-        Ok(script)
+        };
+        Ok(Script { header, turn, body })
     }
 }
