@@ -33,7 +33,10 @@ fn print_step(
 
 // How many bytes of a part were taken.
 fn taken(steps: &[Step], answers: &[Result<(), Refusal>]) -> u64 {
-    let taken = steps.iter().zip(answers).filter(|(_, answer)| answer.is_ok());
+    let taken = steps
+        .iter()
+        .zip(answers)
+        .filter(|(_, answer)| answer.is_ok());
     taken.fold(0u64, |sum, (step, _)| sum.saturating_add(step.bytes()))
 }
 
