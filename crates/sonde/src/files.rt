@@ -5,13 +5,14 @@ use crate::words::{Hex, exactly};
 use format::{BLOCK_BYTES, LARGEST_FILE, blocks_for};
 use message::Message;
 use sealed::{Reader, Record, Sealed, check_file, read_parts, write_file};
+use std::io::IsTerminal;
 use std::iter;
 
-// From this many bytes on, a command says on standard error what it is at.
+// From this many bytes on, a command says what it is at, where standard error is a terminal.
 const SLOW: usize = 1 << 20;
 
 fn say(rt: &HostRuntime, bytes: usize, doing: &str) -> Result<(), Stop> {
-    if bytes >= SLOW {
+    if bytes >= SLOW && rt.stderr().is_terminal() {
         eprintln!(rt; "{doing} {bytes} bytes")?;
     }
     Ok(())

@@ -4,9 +4,10 @@ ghost use Rattle.std.specs.Iterator.{at_most};
 
 use crate::files::sealed_file;
 use crate::flight::Flight;
+use crate::point::{Fault, Point};
 use crate::polynomials::{make_block, try_block};
 use crate::stop::{Argument, Check, Stop};
-use engine::{Division, Engine, Pair, Step};
+use engine::{Division, Engine, Pair, Side, Step};
 use field::Block;
 use job::{BodyJob, Closed, HeaderJob};
 use message::{Digest, Found, Message, Part, block_of, block_of_byte_counts};
@@ -32,7 +33,11 @@ fn try_flight(rt: &HostRuntime, flight: &Flight) -> Result<Accepted<Block>, Stop
         None => make_block(subkey)?,
     };
     let trial = try_block(subkey, proposal)?;
-    println!(rt; "1 polynomial {proposal}: ok, weight {}", trial.weight)?;
+    println!(rt;
+        "{} {proposal}: ok, weight {}",
+        Point::Polynomial,
+        trial.weight
+    )?;
     Ok(trial.polynomial)
 }
 
@@ -99,22 +104,11 @@ fn hash_flight(rt: &HostRuntime, flight: &Flight) -> Result<Digest, Stop> {
     Check::Job.holds(closed.hash == tagged.hash)?;
     Check::Finder.holds(found_hash(key.subkey, message) == tagged.hash)?;
     println!(rt;
-        "2 header first, then body: ok, job, one-shot and finder give {}",
+        "{}: ok, job, one-shot and finder give {}",
+        Point::Job,
         tagged.hash
     )?;
     Ok(tagged)
-}
-
-// Tries each cut of a range, as far as the body goes, and answers how many there are.
-fn try_cuts(flight: &Flight, tag: Block, cuts: Range<usize>) -> Result<usize, Stop> {
-    let message = flight.files.message();
-    let end = cuts.end.min(message.body.len().saturating_add(1));
-    // The place is what is tried, no index.
-    for at in cuts.start..end {
-        let closed = cut_job(flight.key.step(), flight.key.pad, message, at)?;
-        Check::Cut.holds(closed.tag == tag)?;
-    }
-    Ok(end.saturating_sub(cuts.start))
 }
 
 // Whether the blocks that are found begin where the one before in the same part ended, and reach the ends of both parts.
@@ -141,21 +135,36 @@ fn around(centre: usize) -> Range<usize> {
     centre.saturating_sub(AROUND)..centre.saturating_add(AROUND + 1)
 }
 
-// 3: the body cut in two, at the given places, near its front, its middle and its end.
+// Where the body is cut: at the given places, near its front, its middle and its end.
+fn places(rt: &HostRuntime, flight: &Flight) -> Result<Vec<usize>, Stop> {
+    let length = flight.files.body.len();
+    let near = [0..FRONT + 1, around(length / 2), around(length)];
+    let mut places: Vec<usize> = near
+        .into_iter()
+        .flatten()
+        .filter(|at| *at <= length)
+        .chain(flight.cuts.iter().copied())
+        .collect(rt.alloc())?;
+    places.sort_unstable();
+    places.dedup();
+    Ok(places)
+}
+
+// 3: the body cut in two at each place.
 fn cut_flight(rt: &HostRuntime, flight: &Flight, tag: Block) -> Result<(), Stop> {
     let message = flight.files.message();
-    let length = message.body.len();
-    let near = [0..FRONT + 1, around(length / 2), around(length)];
-    let given = flight.cuts.iter().map(|at| *at..at.saturating_add(1));
-    let cuts = near
-        .into_iter()
-        .chain(given)
-        .try_fold(0usize, |cuts, range| -> Result<usize, Stop> {
-            Check::CutPastEnd.holds(range.start <= length)?;
-            Ok(cuts.saturating_add(try_cuts(flight, tag, range)?))
-        })?;
+    let places = places(rt, flight)?;
+    for at in &places {
+        Check::CutPastEnd.holds(*at <= message.body.len())?;
+        let closed = cut_job(flight.key.step(), flight.key.pad, message, *at)?;
+        Check::Cut.holds(closed.tag == tag)?;
+    }
     Check::Finder.holds(blocks_join(message))?;
-    println!(rt; "3 edges of the segments: ok, {cuts} cuts, each block in one segment")?;
+    println!(rt;
+        "{}: ok, {} cuts, each block in one segment",
+        Point::Edges,
+        places.len()
+    )?;
     Ok(())
 }
 
@@ -174,9 +183,16 @@ fn switch_flight(
         body: &body,
     };
     let tagged = tag_message(&mut key.step(), key.pad, message)?;
-    for at in [126 * 16, 127 * 16, 128 * 16, 128 * 16 + 7] {
+    let before = message.header.len().div_ceil(16);
+    for at in [126usize * 16, 127 * 16, 128 * 16, 128 * 16 + 7] {
         let pair = Pair::new(key.step(), Division::new(polynomial));
-        let closed = cut_job(pair, key.pad, message, at)?;
+        let closed = cut_job(
+            pair,
+            key.pad,
+            message,
+            at.saturating_sub(before.saturating_mul(16)),
+        )?;
+        Check::Runs.holds(closed.engine.running() == Side::Second)?;
         Check::Switch.holds(closed.tag == tagged.tag)?;
     }
     let copy = if short {
@@ -184,7 +200,7 @@ fn switch_flight(
     } else {
         ""
     };
-    println!(rt; "4 engine switched past 127 blocks: ok{copy}")?;
+    println!(rt; "{}: ok{copy}", Point::Switch)?;
     Ok(())
 }
 
@@ -196,16 +212,18 @@ fn seal_flight(rt: &HostRuntime, flight: &Flight, out: &str) -> Result<(), Stop>
     check_file(key.step(), key.pad, &file).answer?;
     let parts = read_parts(rt.alloc(), &file)?;
     Check::ReadBack.holds(flight.files.are(&parts))?;
-    println!(rt; "5 seal read back: ok, {blocks} blocks in {out}")?;
+    println!(rt; "{}: ok, {blocks} blocks in {out}", Point::Seal)?;
     Ok(())
 }
 
-fn go_down(rt: &HostRuntime, flight: &Flight, out: &str) -> Result<(), Stop> {
-    let polynomial = try_flight(rt, flight)?;
-    let tagged = hash_flight(rt, flight)?;
-    cut_flight(rt, flight, tagged.tag)?;
-    switch_flight(rt, flight, polynomial)?;
-    seal_flight(rt, flight, out)
+fn go_down(rt: &HostRuntime, words: [&String; 5], options: &[String]) -> Result<(), Fault> {
+    let [subkey, pad, header, body, out] = words;
+    let flight = Point::Flight.of(Flight::read(rt, [subkey, pad, header, body], options))?;
+    let polynomial = Point::Polynomial.of(try_flight(rt, &flight))?;
+    let tagged = Point::Job.of(hash_flight(rt, &flight))?;
+    Point::Edges.of(cut_flight(rt, &flight, tagged.tag))?;
+    Point::Switch.of(switch_flight(rt, &flight, polynomial))?;
+    Point::Seal.of(seal_flight(rt, &flight, out))
 }
 
 pub(crate) fn preflight(rt: &HostRuntime, words: &[String]) -> Result<(), Stop> {
@@ -215,15 +233,15 @@ pub(crate) fn preflight(rt: &HostRuntime, words: &[String]) -> Result<(), Stop> 
             given: words.len(),
         });
     };
-    let flight = Flight::read(rt, [subkey, pad, header, body], options)?;
-    match go_down(rt, &flight, out) {
+    match go_down(rt, [subkey, pad, header, body, out], options) {
         Ok(()) => {
             println!(rt; "cleared for launch")?;
             Ok(())
         }
-        Err(stop) => {
-            print!(rt; "do not launch: ")?;
-            Err(stop)
+        Err(fault) => {
+            println!(rt; "{}: {}", fault.point, fault.stop)?;
+            println!(rt; "do not launch: {}", fault.stop)?;
+            Err(Stop::Grounded)
         }
     }
 }

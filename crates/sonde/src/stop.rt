@@ -73,6 +73,8 @@ pub(crate) enum Check {
     Cut,
     #[error("a cut stands past the end of the body")]
     CutPastEnd,
+    #[error("a switch does not make the other engine run")]
+    Runs,
     #[error("a switch changes the tag")]
     Switch,
     #[error("what is read back is not what was sealed")]
@@ -117,7 +119,7 @@ pub(crate) enum Stop {
         wanted: usize,
         given: usize,
     },
-    #[error("no such command; sonde alone prints how to use it")]
+    #[error("no such command; sonde --help says how to use it")]
     NoCommand,
     #[error("no such option, or one without its value")]
     NoOption,
@@ -126,6 +128,9 @@ pub(crate) enum Stop {
     Differs(#[from] Check),
     #[error("no memory")]
     NoMemory(#[from(alloc)] AllocError),
+    // The list before a launch has said why.
+    #[error("do not launch")]
+    Grounded,
     // Printing failed.
     #[error("{0}")]
     Failed(#[from] io::Error),
@@ -146,6 +151,7 @@ impl Stop {
     pub(crate) fn print(&self, rt: &HostRuntime) -> io::Result<()> {
         match self {
             Stop::Refused(_) | Stop::Differs(_) => println!(rt; "{self}"),
+            Stop::Grounded => Ok(()),
             _ => eprintln!(rt; "{self}"),
         }
     }

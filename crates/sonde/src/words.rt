@@ -2,6 +2,7 @@
 use crate::stop::{Argument, BadWord, Stop};
 use field::Block;
 use hexadecimal::{parse_block, parse_bytes};
+use std::io::Read;
 use std::{fmt, fs, io};
 
 // The words of a command that takes so many.
@@ -10,6 +11,12 @@ pub(crate) fn exactly<const N: usize>(words: &[String]) -> Result<&[String; N], 
         wanted: N,
         given: words.len(),
     })
+}
+
+fn read_input(rt: &HostRuntime) -> io::Result<Vec<u8>> {
+    let mut bytes = Vec::new(rt.alloc());
+    rt.reader().read_to_end(&mut bytes)?;
+    Ok(bytes)
 }
 
 impl Argument {
@@ -42,9 +49,13 @@ impl Argument {
         }
     }
 
-    // A file's bytes.
+    // A file's bytes. A body may come from standard input, by the name -.
     pub(crate) fn read_bytes(self, rt: &HostRuntime, path: &str) -> Result<Vec<u8>, Stop> {
-        fs::read(rt, path).map_err(|error| self.no_file(error))
+        let read = match self {
+            Argument::Body if path == "-" => read_input(rt),
+            _ => fs::read(rt, path),
+        };
+        read.map_err(|error| self.no_file(error))
     }
 
     // A file's text. Not one with the above: it is checked to be text.
