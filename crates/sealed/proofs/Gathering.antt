@@ -5,7 +5,7 @@ use Rattle.refusal.specs.declared.Refusal.{Refusal}
 use Rattle.refusal.specs.declared.Refusal.TheVariants.{NoEnd}
 use Rattle.format.specs.Faults.{Previous, first, previous, is_size_good, rows_of, block_at, previous_at, blocks_of, on_fault, fault_of, scanned, data_of}
 use Rattle.format.specs.Verdict.{after}
-use Rattle.sealed.specs.Collecting.{brought, read_answer}
+use Rattle.sealed.specs.Collecting.{brought, data_before, Joins, read_answer}
 use Rattle.sealed.specs.Reading.{Taken, wrong_at}
 use Rattle.sealed.specs.declared.record.Item.{Item}
 use Rattle.std.proofs.lemmas.Bool.Decides.{nat_tests}
@@ -82,3 +82,9 @@ pub data_joined : (kind k : ℕ) (file held more : List ℕ) (i : Item) → Take
 data_joined kind k file held more i taken so_far kept =
     kept ∙ ap₂ (λ (xs ys : List ℕ). xs ++ ys) so_far (ap₂ (λ (n : ℕ) (xs : List ℕ). cond (eqb n kind) xs []) taken.kind taken.bytes)
     ∙ sym (data_more kind k file) ∙ ap (λ (j : ℕ). data_of kind (rows_of j file)) (add-one k)
+
+pub joins_record : (file : List ℕ) (k : ℕ) (i : Item) → Taken file k i → Joins file k (Ok (Some i))
+joins_record file k i taken = (
+  sym (data_joined 1 k file (data_before 1 k file) (data_before 1 k file ++ brought 1 i.record) i taken refl refl),
+  sym (data_joined 2 k file (data_before 2 k file) (data_before 2 k file ++ brought 2 i.record) i taken refl refl),
+)

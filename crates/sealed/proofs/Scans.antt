@@ -1,12 +1,12 @@
 -- The blocks of a file, one after another.
-use Rattle.std.proofs.Common.{◌≡◌, ℕ, zero, suc, ◌+◌, ◌-◌, ◌*◌, ◌/◌, ◌<◌, ◌≤◌, cond, eqb, List, [], ◌∷◌, ◌++◌, length, get_or, take, drop, take-append-drop, add-one, Some, None, Err, sym, refl, ap, ◌∙◌, append_assoc, append-nil, zero-add, arith, length-append}
+use Rattle.std.proofs.Common.{◌≡◌, ℕ, zero, suc, ◌+◌, ◌-◌, ◌*◌, ◌/◌, ◌<◌, ◌≤◌, true, cond, eqb, List, [], ◌∷◌, ◌++◌, length, get_or, take, drop, take-append-drop, add-one, Some, None, Err, sym, refl, ap, ◌∙◌, append_assoc, append-nil, zero-add, arith, length-append}
 use Rattle.std.proofs.lemmas.Bool.Decides.{nat_tests}
-use Rattle.std.proofs.lemmas.List.{drop-drop, drop_more, take_more, length-drop, length-take, length-take-le}
+use Rattle.std.proofs.lemmas.List.{drop-drop, drop_more, take_more, take_rest, length-drop, length-take, length-take-le}
 use Rattle.std.specs.Simd.{first_chunks}
 use Rattle.refusal.specs.declared.Refusal.{Refusal}
-use Rattle.format.specs.Faults.{Previous, previous, kind_in, used_in, data_in, rows_of, block_at, blocks_of, on_fault, fault_of, scanned, data_of}
+use Rattle.format.specs.Faults.{Previous, previous, kind_in, used_in, data_in, is_size_good, rows_of, block_at, blocks_of, on_fault, fault_of, scanned, data_of}
 use Rattle.sealed.specs.Checking.{data_of_kind}
-use Rattle.sealed.proofs.Places.{block_size}
+use Rattle.sealed.proofs.Places.{block_size, sized}
 
 -- ---- rows
 
@@ -107,9 +107,20 @@ pub data_in_file : (kind : ℕ) (file : List ℕ) → length (data_of kind (bloc
 unfolding blocks_of
 data_in_file kind file = omega (arith, data_within kind (length file / 512) file)
 
-pub data_at_end : (kind k : ℕ) (file : List ℕ) → k ≡ length file / 512 → data_of kind (rows_of k file) ≡ data_of kind (blocks_of file)
+pub rows_at_end : (k : ℕ) (file : List ℕ) → k ≡ length file / 512 → rows_of k file ≡ blocks_of file
 unfolding blocks_of
-data_at_end kind k file end = ap (λ (j : ℕ). data_of kind (rows_of j file)) end
+rows_at_end k file end = ap (λ (j : ℕ). rows_of j file) end
+
+-- where fewer bytes than a block are left of a whole file, none are, and all its blocks are read
+pub rows_all : (k : ℕ) (file : List ℕ) → true ≡ is_size_good file → 512 * k ≤ length file → length (take (length file - 512 * k) (drop (512 * k) file)) < 512 → rows_of k file ≡ blocks_of file
+rows_all k file good within short =
+    let size = sized file (sym good) in
+    let left = ap length (take_rest file (512 * k)) ∙ length-drop (512 * k) file in
+    let all : 512 * k ≡ length file = omega (arith, size.whole, within, left, short) in
+    rows_at_end k file (omega (arith, all))
+
+pub data_at_end : (kind k : ℕ) (file : List ℕ) → k ≡ length file / 512 → data_of kind (rows_of k file) ≡ data_of kind (blocks_of file)
+data_at_end kind k file end = ap (data_of kind) (rows_at_end k file end)
 
 -- ---- scanning
 

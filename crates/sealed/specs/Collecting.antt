@@ -1,18 +1,30 @@
 -- What is put together from a file's records.
-use Rattle.std.specs.Prelude.{◌≡◌, ℕ, ◌/◌, cond, List, [], ◌++◌, length, Ok, Err, vec_items, Result, ◌==◌}
+use Rattle.std.specs.Prelude.{◌≡◌, ℕ, suc, ◌/◌, cond, List, [], ◌++◌, length, Some, None, Ok, Err, vec_items, Option, Result, ◌==◌}
 use Rattle.refusal.specs.declared.Refusal.{Refusal}
 use Rattle.refusal.specs.declared.Refusal.TheVariants.{FileSize, NoEnd}
-use Rattle.format.specs.Faults.{first, is_size_good, blocks_of, scanned, header_in, body_in}
+use Rattle.format.specs.Faults.{first, is_size_good, rows_of, blocks_of, scanned, data_of, header_in, body_in}
 use Rattle.format.specs.Verdict.{after}
 use Rattle.sealed.specs.Reading.{kind_of, data_held}
 use Rattle.sealed.specs.declared.parts.Parts.{Parts}
 use Rattle.sealed.specs.declared.parts.ReadFault.{ReadFault}
 use Rattle.sealed.specs.declared.parts.ReadFault.TheVariants.{Memory, Refused}
+use Rattle.sealed.specs.declared.record.Item.{Item}
 use Rattle.sealed.specs.declared.record.Record.{Record}
 
 -- what a record brings to the part of a kind
 abbrev pub brought : ℕ → Record → List ℕ
 brought kind r = cond (kind_of r == kind) (data_held r) []
+
+-- the data of a kind in the first n blocks of a file
+abbrev pub data_before : ℕ → ℕ → List ℕ → List ℕ
+data_before kind n file = data_of kind (rows_of n file)
+
+-- One call of a reader that has read k blocks: the data of each part in one block more is that in k blocks joined with what the record
+-- brings; and where there is no record, the first k blocks are all that the file has. A refusal says nothing of the data.
+abbrev pub Joins : List ℕ → ℕ → Result (Option Item) Refusal → Type 0
+Joins file k (Ok None) = rows_of k file ≡ blocks_of file
+Joins file k (Ok (Some i)) = (data_before 1 (suc k) file ≡ data_before 1 k file ++ brought 1 i.record) × (data_before 2 (suc k) file ≡ data_before 2 k file ++ brought 2 i.record)
+Joins file k (Err e) = Unit {0}
 
 -- one record more
 pub record Kept (p : Parts) (r : Record) (t : Parts) : Type 0 where

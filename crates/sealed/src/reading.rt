@@ -2,6 +2,7 @@
 ghost use Rattle.std.specs.Prelude.{◌≡◌, ◌≤◌, length, take};
 ghost use Rattle.format.specs.Faults.{is_size_good, previous};
 ghost use Rattle.format.specs.Kinds.{number_of};
+ghost use Rattle.sealed.specs.Collecting.{Joins};
 ghost use Rattle.sealed.specs.Reading.{Parsed, Read, data_held, kind_of};
 ghost use Rattle.sealed.specs.Shapes.{shown};
 
@@ -54,9 +55,11 @@ impl<'a> Reader<'a> {
     }
 
     // The next record, or none after the end; a refusal leaves the reader where it is.
+    #[tactic(auto, using(crate::proofs::Scans::rows_all))]
     pub fn next(&mut self) -> Result<Option<Item<'a>>, Refusal>
         ensures file { self.new.file.now ≡ self.old.file.now }
         ensures read { Read self.old.file.now self.old.place self.new.place result }
+        ensures joins { Joins self.old.file.now self.old.place result }
     {
         let file = self.file;
         let place = self.place;

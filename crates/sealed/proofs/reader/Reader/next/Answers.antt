@@ -2,8 +2,10 @@ use Rattle.std.proofs.Common.{◌≡◌, ℕ, suc, ◌+◌, ◌*◌, ◌≤◌, 
 use Rattle.std.proofs.lemmas.List.{length-drop, take_rest, drop-drop}
 use Rattle.std.proofs.lemmas.Result.{err_from_is_err_and}
 use Rattle.format.specs.Faults.{Previous, is_size_good, kind_in, data_in, previous, previous_at, block_at, fault_of}
-use Rattle.sealed.specs.Reading.{wrong_at}
+use Rattle.sealed.specs.Reading.{Parsed, Taken, wrong_at}
 use Rattle.sealed.specs.Shapes.{previous_of, shown}
+use Rattle.sealed.specs.declared.record.Item.{Item}
+use Rattle.sealed.proofs.Gathering.{joins_record}
 use Rattle.sealed.proofs.Places.{wrong_block}
 use Rattle.sealed.proofs.reader.Reader.next.Goals as goal
 
@@ -28,6 +30,17 @@ module _ (file block left : List ℕ) (k : ℕ) (p : Previous) (is_left : left �
   next_previous : (q : Previous) → q ≡ previous block → q ≡ previous_at file (k + 1)
   next_previous q said = said ∙ ap previous is_block ∙ sym (ap (previous_at file) (add-one k))
 
+-- the record that was read of what is left is that of its place
+taken : (file : List ℕ) (k : ℕ) (i : Item) → Parsed (take (length file - 512 * k) (drop (512 * k) file)) i.record i.rest.now → Taken file k i
+taken file k i parsed =
+    let rest = take_rest file (512 * k) in
+    let next : 512 * k + 512 ≡ 512 * suc k = omega arith in
+    record {
+      kind = parsed.kind ∙ ap (λ (xs : List ℕ). kind_in (take 512 xs)) rest;
+      bytes = parsed.bytes ∙ ap (λ (xs : List ℕ). data_in (take 512 xs)) rest;
+      after = parsed.after ∙ ap (drop 512) rest ∙ drop-drop 512 (512 * k) file ∙ ap (λ (n : ℕ). drop n file) next;
+    }
+
 pub returns-in_err-shape-clause-read : goal.returns-in_err-shape-clause-read
 returns-in_err-shape-clause-read c =
     let self = c.args.self.now in
@@ -49,16 +62,15 @@ returns-clause-read c =
     let self = c.args.self.now in
     let file : List ℕ = self.file.now in
     let k : ℕ = self.place in
-    let cut = c.in-Some.ensures.cases in
-    let rest = take_rest file (512 * k) in
-    let next : 512 * k + 512 ≡ 512 * suc k = omega arith in
-    let parsed = c.parse.ensures in (
+    let cut = c.in-Some.ensures.cases in (
       wrong file c.in-Some.block.now _ k (previous_of self.last) refl cut.same cut.enough self.kind self.used (sym c.if-not-size_good.ensures) ∙ c.in_ok-shape.ensures.0,
       whole file c.in-Some.block.now _ k (previous_of self.last) refl cut.same cut.enough self.kind self.used,
-      record {
-        kind = parsed.kind ∙ ap (λ (xs : List ℕ). kind_in (take 512 xs)) rest;
-        bytes = parsed.bytes ∙ ap (λ (xs : List ℕ). data_in (take 512 xs)) rest;
-        after = parsed.after ∙ ap (drop 512) rest ∙ drop-drop 512 (512 * k) file ∙ ap (λ (n : ℕ). drop n file) next;
-      },
+      taken file k record { «record» = c.parse.result.0; rest = c.parse.result.1 } c.parse.ensures,
       add-one k,
     )
+
+pub returns-clause-joins : goal.returns-clause-joins
+returns-clause-joins c =
+    let self = c.args.self.now in
+    let item : Item = record { «record» = c.parse.result.0; rest = c.parse.result.1 } in
+    joins_record self.file.now self.place item (taken self.file.now self.place item c.parse.ensures)
