@@ -41,7 +41,11 @@ fn print_file(rt: &HostRuntime, header: usize, body: usize) -> Result<(), Fault>
     print!(rt; "file of header {header} and body {body}: ")?;
     match sealed_blocks(rt.alloc(), header, body) {
         Err(Fault::Refused(refusal)) => println!(rt; "refused {}", refusal.number())?,
-        answer => println!(rt; "{} blocks, written and accepted", answer?)?,
+        answer => {
+            let blocks = answer?;
+            let bytes = u64::from(blocks).saturating_mul(BLOCK_BYTES as u64);
+            println!(rt; "{bytes} bytes, {blocks} blocks, written and accepted")?;
+        }
     }
     Ok(())
 }
