@@ -138,13 +138,11 @@ fn around(centre: usize) -> Range<usize> {
 // Where the body is cut: at the given places, near its front, its middle and its end.
 fn places(rt: &HostRuntime, flight: &Flight) -> Result<Vec<usize>, Stop> {
     let length = flight.files.body.len();
-    let near = [0..FRONT + 1, around(length / 2), around(length)];
-    let mut places: Vec<usize> = near
-        .into_iter()
-        .flatten()
-        .filter(|at| *at <= length)
-        .chain(flight.cuts.iter().copied())
-        .collect(rt.alloc())?;
+    let mut places = Vec::new(rt.alloc());
+    for range in [0..FRONT + 1, around(length / 2), around(length)] {
+        places.extend(range.start..range.end.min(length.saturating_add(1)))?;
+    }
+    places.extend_from_slice(&flight.cuts)?;
     places.sort_unstable();
     places.dedup();
     Ok(places)
