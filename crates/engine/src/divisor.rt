@@ -20,6 +20,7 @@ impl Divisor {
     {
         let coefficients = polynomial.coefficients();
         let mut places = ArrayVec::new();
+        // The number is the place that is tried, no index. No `extend`: it may find no room, and a push here always does.
         for place in 0..128u8 {
             if coefficients.bit(usize::from(place)) {
                 places.push(place);
