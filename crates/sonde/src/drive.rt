@@ -1,13 +1,12 @@
 // The command `replay`: a job driven by a script, over a pair of step and division engines.
 use crate::flight::Key;
+use crate::polynomials::accepted;
 use crate::script::{Asked, Script, Step};
 use crate::stop::{Argument, Stop};
 use crate::words::exactly;
 use engine::{Division, Pair, Side};
-use field::{Block, Element};
 use job::{Call, Replayed, replay};
 use message::Part;
-use polynomial::Accepted;
 use refusal::Refusal;
 use std::alloc::AllocError;
 use std::io;
@@ -21,6 +20,7 @@ fn print_step(
     answer: &Result<(), Refusal>,
 ) -> io::Result<()> {
     let line = step.line;
+    // A plain match, here and below: what was asked and what came of it are known only at run time.
     match &step.asked {
         Asked::Feed(piece) => print!(rt; "line {line}: {part} {} bytes: ", piece.len())?,
         Asked::Switch => print!(rt; "line {line}: switch: ")?,
@@ -70,9 +70,7 @@ fn print_replay(rt: &HostRuntime, script: &Script, done: &Replayed<Engines>) -> 
 }
 
 fn run_script(rt: &HostRuntime, key: Key, script: &Script) -> Result<(), Stop> {
-    let mut scratch = [Block::zero(); 128];
-    let polynomial = Accepted::make(key.subkey, &mut scratch)?;
-    let engines = Pair::new(key.step(), Division::new(polynomial));
+    let engines = Pair::new(key.step(), Division::new(accepted(key.subkey)?));
     let header: Vec<Call> = script.header.iter().map(Step::call).collect(rt.alloc())?;
     let body: Vec<Call> = script.body.iter().map(Step::call).collect(rt.alloc())?;
     let done = replay(rt.alloc(), engines, &header, &body, key.pad).map_err(

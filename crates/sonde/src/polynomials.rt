@@ -2,12 +2,18 @@
 use crate::stop::{Argument, Stop};
 use crate::words::exactly;
 use field::{Block, Element};
-use polynomial::{Binary, Trial, make_polynomial, try_polynomial};
+use polynomial::{Accepted, Binary, Trial, make_polynomial, try_polynomial};
 
 // The maker's polynomial. A function here and below, since the library keeps no scratch of its own.
 pub(crate) fn make_block(subkey: Block) -> Result<Block, Stop> {
     let mut scratch = [Block::zero(); 128];
     Ok(make_polynomial(subkey, &mut scratch)?)
+}
+
+// The maker's polynomial with the fact that it annihilates, so that no trial has to follow.
+pub(crate) fn accepted(subkey: Block) -> Result<Accepted<Block>, Stop> {
+    let mut scratch = [Block::zero(); 128];
+    Ok(Accepted::make(subkey, &mut scratch)?)
 }
 
 // The trial of a proposal.

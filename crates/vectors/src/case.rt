@@ -52,6 +52,7 @@ pub(crate) fn compare(rt: &HostRuntime, line: &str, more: bool) -> Result<bool, 
     };
     let case = Case::parse(rt.alloc(), [subkey, pad, header, body])?;
     let digest = case.message().hash_and_tag(case.subkey, case.pad)?;
+    // Part by part: a published case gives no count of blocks, which a digest has.
     let same = digest.hash == parse_block(hash)? && digest.tag == parse_block(tag)?;
     let verdict = if same { "as published" } else { "DIFFERS" };
     println!(rt;

@@ -37,6 +37,7 @@ fn sealed_blocks(heap: Global, header: usize, body: usize) -> Result<u32, Fault>
     Ok(sealed.blocks)
 }
 
+// Two lengths, and no struct, as above.
 fn print_file(rt: &HostRuntime, header: usize, body: usize) -> Result<(), Fault> {
     print!(rt; "file of header {header} and body {body}: ")?;
     match sealed_blocks(rt.alloc(), header, body) {
