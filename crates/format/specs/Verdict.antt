@@ -14,6 +14,17 @@ abbrev pub after : {T U E : Type 0} → Result T E → (T → Result U E) → Re
 after (Ok x) f = f x
 after (Err e) f = Err e
 
+abbrev pub lengths_of : List ℕ → List ℕ → Lengths
+lengths_of header body = record { header = length header; body = length body }
+
+-- size, then block by block, then the end: what can be said of a file's blocks, and how long its parts are
+abbrev pub scan_answer : List ℕ → Result Lengths Refusal
+scan_answer file =
+    cond (is_size_good file)
+    (after (scanned 0 first (blocks_of file)) (λ last.
+    cond (last.kind == 3) (Ok (lengths_of (header_in file) (body_in file))) (Err (NoEnd (length file / 512)))))
+    (Err FileSize)
+
 -- the tag in the file against the tag of what is read out of it
 abbrev pub tag_verdict : Block → Block → List ℕ → Result Lengths Refusal
 tag_verdict subkey pad file =
@@ -30,9 +41,6 @@ verdict subkey pad file =
     (cond (nat_le (length (header_in file)) header_limit) (tag_verdict subkey pad file) (Err HeaderTooLong))
     (Err (NoEnd (length file / 512)))))
     (Err FileSize)
-
-abbrev pub lengths_of : List ℕ → List ℕ → Lengths
-lengths_of header body = record { header = length header; body = length body }
 
 -- An answer that accepts exactly the files that seal what is read out of them, and answers the lengths of that.
 pub record Exact (subkey pad : Block) (file : List ℕ) (answer : Result Lengths Refusal) : Type 0 where
