@@ -4,4 +4,5 @@ pub mod BlockFields
 pub mod Pieces
 pub mod Sequences
 pub mod Scans
+pub mod FirstPass
 pub mod Laws
