@@ -1,5 +1,5 @@
 -- What the first pass found of a file that it lets through.
-use Rattle.std.proofs.Common.{◌≡◌, ℕ, ◌/◌, ◌≤◌, Bool, true, false, cond, eqb, leb, List, length, Ok, Err, Result, sym, refl, ◌∙◌, subst, arith}
+use Rattle.std.proofs.Common.{◌≡◌, ℕ, ◌/◌, ◌≤◌, Bool, true, false, cond, eqb, leb, List, length, Ok, Err, Result, sym, refl, ◌∙◌, subst}
 use Rattle.std.proofs.lemmas.Bool.{eqb-true, leb-true}
 use Rattle.refusal.specs.declared.Refusal.{Refusal}
 use Rattle.refusal.specs.declared.Refusal.TheVariants.{HeaderTooLong, FileSize, NoEnd}
@@ -36,8 +36,7 @@ passed file lens e =
     let end = test_passed (eqb scan.0.kind 3) (Ok told) (NoEnd (length file / 512)) found scan.2 in
     let limit = test_passed (leb found.header 65535) (Ok found) HeaderTooLong lens whole.2 in
     let read : told ≡ found = cc in
-    let said : found ≡ lens = cc in
-    (
+    let said : found ≡ lens = cc in (
       record {
         size = size.0;
         last = scan.0;

@@ -1,5 +1,6 @@
 -- The check accepts sealed files and no others.
-use Rattle.std.proofs.Common.{◌≡◌, ℕ, ◌+◌, ◌*◌, ◌/◌, ◌%◌, ◌≤◌, true, cond, eqb, leb, List, map, length, Ok, Err, Result, sym, refl, ap, ◌∙◌, subst, ap₂, mod-eq_of_lt, arith, lit<}
+use Rattle.std.proofs.Common.{◌≡◌, ℕ, ◌+◌, ◌*◌, ◌/◌, ◌%◌, ◌≤◌, true, eqb, List, map, length, Ok, Err, Result, sym, refl, ap, ◌∙◌, subst, ap₂, mod-eq_of_lt, arith, lit<}
+use Rattle.std.specs.Prelude.{IsOk, IfOk, is_ok}
 use Rattle.std.proofs.lemmas.Bool.{eqb-true}
 use Rattle.std.proofs.lemmas.Bool.Decides.{nat_tests}
 use Rattle.field.specs.Bytes.{bytes_of}
@@ -9,11 +10,10 @@ use Rattle.field.proofs.Digits.{length_digits, numeral_digits, digits_numeral}
 use Rattle.message.specs.Limits.{header_limit}
 use Rattle.message.specs.Blocks.{AreBytes}
 use Rattle.message.specs.Hash.{tag_of}
-use Rattle.refusal.specs.declared.Refusal.{Refusal}
 use Rattle.refusal.specs.declared.Refusal.TheVariants.{TagDiffers}
 use Rattle.format.specs.Layout.{Content, contents, laid, sealed, blocks_for}
-use Rattle.format.specs.Faults.{Previous, first, rows_of, blocks_of, is_size_good, scanned, data_of, header_in, body_in, tag_in}
-use Rattle.format.specs.Verdict.{lengths_of, first_pass, tag_verdict, verdict, Exact, Reopens}
+use Rattle.format.specs.Faults.{first, rows_of, blocks_of, is_size_good, scanned, data_of, header_in, body_in, tag_in}
+use Rattle.format.specs.Verdict.{lengths_of, first_pass, tag_verdict, verdict, IsSealOf, Exact, Reopens}
 use Rattle.format.specs.declared.lengths.Lengths.{Lengths}
 use Rattle.format.proofs.BlockFields.{content_of}
 use Rattle.format.proofs.Sequences.{Follows, part_of, Whole, in_order, contents_follow, header_part, body_part, tag_part, length_contents}
@@ -145,11 +145,39 @@ reopens subkey pad header body short count = record {
   body_again = sealed_body subkey pad header body;
 }
 
-pub exact : (subkey pad : Block) (file : List ℕ) → AreBytes file → Exact subkey pad file (verdict subkey pad file)
-exact subkey pad file small = record {
-  sound = λ lens e.
-      ((accepted_parts subkey pad file lens e).read, accepted_sealed subkey pad file lens small e);
-  complete = λ header body short count same.
-      let r = reopens subkey pad header body short count in
-      (ap (verdict subkey pad) same ∙ r.accepted, ap header_in same ∙ r.header_again, ap body_in same ∙ r.body_again);
-}
+-- the value of a result that has one
+value_of : {T E : Type 0} (r : Result T E) → IsOk r → (x : T) × (r ≡ Ok x)
+value_of (Ok x) e = (x, refl)
+value_of (Err y) e = absurd (cc)
+
+-- a result of which something is known where it is a value
+if_value : {T E : Type 0} (r : Result T E) (P : T → Type 0) → ((x : T) → r ≡ Ok x → P x) → IfOk r P
+if_value (Ok x) P known = known x refl
+if_value (Err e) P known = tt
+
+module _ (subkey pad : Block) (file : List ℕ) (small : AreBytes file) where
+  -- an accepted file is what the writer makes
+  pub accepted_seal : (lens : Lengths) → verdict subkey pad file ≡ Ok lens → IsSealOf subkey pad (header_in file) (body_in file) file
+  accepted_seal lens e =
+      let pass : Passed file = (accepted_parts subkey pad file lens e).pass in
+      let made : file ≡ sealed subkey pad (header_in file) (body_in file) = accepted_sealed subkey pad file lens small e in
+      let few : length file ≤ 33554432 = grind (arith, nat_tests, pass.size) in
+      let long = ap length made ∙ length_sealed subkey pad (header_in file) (body_in file) in
+      record { short = pass.short; few = omega (arith, long); made = made }
+
+  -- what the writer makes is accepted
+  pub seal_accepted : (header body : List ℕ) → IsSealOf subkey pad header body file → verdict subkey pad file ≡ Ok (lengths_of header body)
+  seal_accepted header body seal = ap (verdict subkey pad) seal.made ∙ sealed_accepted subkey pad header body seal.short seal.few
+
+  pub exact : Exact subkey pad file (verdict subkey pad file)
+  exact = record {
+    exactly = (
+      λ ok. let lens = value_of (verdict subkey pad file) ok in accepted_seal lens.0 lens.1,
+      λ seal. ap is_ok (seal_accepted (header_in file) (body_in file) seal),
+    );
+    lengths = if_value (verdict subkey pad file) _ (λ lens e. (accepted_parts subkey pad file lens e).read);
+    only = λ header body seal. (
+      ap header_in seal.made ∙ sealed_header subkey pad header body,
+      ap body_in seal.made ∙ sealed_body subkey pad header body,
+    );
+  }

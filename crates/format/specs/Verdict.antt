@@ -1,5 +1,5 @@
 -- What a file check answers.
-use Rattle.std.specs.Prelude.{◌≡◌, ℕ, ◌/◌, ◌≤◌, if◌then◌else◌, List, length, Ok, Err, Result, ◌==◌, nat_le}
+use Rattle.std.specs.Prelude.{◌≡◌, ℕ, ◌/◌, ◌≤◌, ◌↔◌, if◌then◌else◌, List, length, Ok, Err, Result, IsOk, IfOk, ◌==◌, nat_le}
 use Rattle.field.specs.Digits.{numeral}
 use Rattle.field.specs.declared.kinds.Block.{Block}
 use Rattle.message.specs.Limits.{header_limit}
@@ -41,11 +41,22 @@ tag_verdict subkey pad file =
 abbrev pub verdict : Block → Block → List ℕ → Result Lengths Refusal
 verdict subkey pad file = after (first_pass file) (λ _. tag_verdict subkey pad file)
 
--- An answer that accepts exactly the files that seal what is read out of them, and answers the lengths of that.
+-- The writer makes this file from this header and body, under this subkey and pad.
+pub record IsSealOf (subkey pad : Block) (header body file : List ℕ) : Type 0 where
+  pub short : length header ≤ header_limit
+  pub few : blocks_for (length header) (length body) ≤ 65536
+  pub made : file ≡ sealed subkey pad header body
+
+-- An answer that accepts exactly the files that the writer makes.
 pub record Exact (subkey pad : Block) (file : List ℕ) (answer : Result Lengths Refusal) : Type 0 where
-  pub sound : (lens : Lengths) → answer ≡ Ok lens → (lens ≡ lengths_of (header_in file) (body_in file)) × (file ≡ sealed subkey pad (header_in file) (body_in file))
-  pub complete : (header body : List ℕ) → length header ≤ header_limit → blocks_for (length header) (length body) ≤ 65536
-      → file ≡ sealed subkey pad header body → (answer ≡ Ok (lengths_of header body)) × (header_in file ≡ header) × (body_in file ≡ body)
+  -- accepted exactly where the writer makes the file from the header and body read out of it
+  pub exactly : IsOk answer ↔ IsSealOf subkey pad (header_in file) (body_in file) file
+  -- and answered with the lengths of these two
+  pub lengths : IfOk answer (λ lens. lens ≡ lengths_of (header_in file) (body_in file))
+  -- whatever header and body the writer made the file from, they are what is read out of it
+  pub only : (header body : List ℕ)
+      → IsSealOf subkey pad header body file
+      → (header_in file ≡ header) × (body_in file ≡ body)
 
 -- What a header and a body are sealed into is accepted, and both are read out of it again.
 pub record Reopens (subkey pad : Block) (header body : List ℕ) : Type 0 where
