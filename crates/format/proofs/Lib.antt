@@ -5,4 +5,5 @@ pub mod Pieces
 pub mod Sequences
 pub mod Scans
 pub mod FirstPass
+pub mod BlockFlaws
 pub mod Laws

@@ -43,8 +43,11 @@ verdict subkey pad file = after (first_pass file) (λ _. tag_verdict subkey pad 
 
 -- The writer makes this file from this header and body, under this subkey and pad.
 pub record IsSealOf (subkey pad : Block) (header body file : List ℕ) : Type 0 where
+  -- the header is within its limit
   pub short : length header ≤ header_limit
+  -- no file has more blocks
   pub few : blocks_for (length header) (length body) ≤ 65536
+  -- byte for byte
   pub made : file ≡ sealed subkey pad header body
 
 -- An answer that accepts exactly the files that the writer makes.
