@@ -125,10 +125,13 @@ module _ (file : List ℕ) (k : ℕ) where
   sound_or_flawed =
       elim (failed_or_none (is_free file k)) [
         | inl all ↦ inl (λ flaw. (free_decides file k flaw).0 (all flaw))
-        | inr first ↦ inr (first.0, record {
-          there = not_from_Decides (is_free file k first.0) (free_decides file k first.0) first.1.failed;
-          earlier = λ other less. (free_decides file k other).0 (first.1.earlier other less);
-        })
+        | inr first ↦ inr (
+          first.0,
+          record {
+            there = not_from_Decides (is_free file k first.0) (free_decides file k first.0) first.1.failed;
+            earlier = λ other less. (free_decides file k other).0 (first.1.earlier other less);
+          },
+        )
       ]
 
   pub no_fault : IsSound file k → fault_at ≡ None
@@ -153,9 +156,9 @@ module _ (file : List ℕ) (k : ℕ) where
       elim sound_or_flawed [
         | inl sound ↦ let none : fault_at ≡ None = no_fault sound in absurd (cc)
         | inr f ↦
-          let some : fault_at ≡ Some (refusal_of f.0 k) = first_fault f.0 f.1 in
-          let why : refusal_of f.0 k ≡ e = cc in
-          subst (IsBlockFault file k) why (named_flaw f.0 f.1)
+            let some : fault_at ≡ Some (refusal_of f.0 k) = first_fault f.0 f.1 in
+            let why : refusal_of f.0 k ≡ e = cc in
+            subst (IsBlockFault file k) why (named_flaw f.0 f.1)
       ]
 
   pub sound_is : fault_at ≡ None → IsSound file k
@@ -164,7 +167,6 @@ module _ (file : List ℕ) (k : ℕ) where
         | inl sound ↦ sound
         | inr f ↦ let some : fault_at ≡ Some (refusal_of f.0 k) = first_fault f.0 f.1 in absurd (cc)
       ]
-
 
   pub fault_again : (e : Refusal) → IsBlockFault file k e → fault_at ≡ Some e
   fault_again (WrongCheck named) h = first_fault check h.1 ∙ ap (λ (j : ℕ). Some (WrongCheck j)) (sym h.0)

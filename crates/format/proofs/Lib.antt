@@ -6,4 +6,5 @@ pub mod Sequences
 pub mod Scans
 pub mod FirstPass
 pub mod BlockFlaws
+pub mod ScanFaults
 pub mod Laws
