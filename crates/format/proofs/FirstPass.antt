@@ -17,6 +17,13 @@ pub test_passed : {T : Type 0} (t : Bool) (r : Result T Refusal) (why : Refusal)
 test_passed true r why x e = (refl, e)
 test_passed false r why x e = absurd (cc)
 
+-- an answer is either, and a refusal for one reason
+pub not_both : {T : Type 0} {r : Result T Refusal} {x : T} {why : Refusal} → r ≡ Ok x → r ≡ Err why → ⊥
+not_both a b = cc
+
+pub one_reason : {T : Type 0} {r : Result T Refusal} {e f : Refusal} → r ≡ Err e → r ≡ Err f → e ≡ f
+one_reason a b = cc
+
 pub record Passed (file : List ℕ) : Type 0 where
   pub size : is_size_good file ≡ true
   pub last : Previous

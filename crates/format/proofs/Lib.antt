@@ -8,3 +8,4 @@ pub mod FirstPass
 pub mod BlockFlaws
 pub mod ScanFaults
 pub mod Laws
+pub mod VerdictFaults

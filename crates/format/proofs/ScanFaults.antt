@@ -11,6 +11,7 @@ use Rattle.format.specs.Faults.{Previous, first, previous, rows_of, blocks_of, i
 use Rattle.format.specs.Verdict.{after, lengths_of, scan_answer}
 use Rattle.format.specs.Flaws.{Flaw, check, number, form, order, IsSound, block_count, HasFileSize, IsFlawless, IsFirstFlaw, IsScanFault, PassesScan}
 use Rattle.format.specs.declared.lengths.Lengths.{Lengths}
+use Rattle.format.proofs.FirstPass.{not_both, one_reason}
 use Rattle.format.proofs.BlockFlaws.{refusal_of, sound_or_flawed, no_fault, first_fault}
 
 -- ---- block by block
@@ -144,20 +145,17 @@ module _ (file : List ℕ) where
 
   -- so the answer of the scan tells which
   pub scan_fault : (e : Refusal) → scan_answer file ≡ Err e → IsScanFault file e
-  scan_fault e same =
+  scan_fault e refused =
       elim pass_or_fault [
-        | inl pass ↦ let found : scan_answer file ≡ Ok told = scan_passes pass in absurd (cc)
-        | inr f ↦
-            let found : scan_answer file ≡ Err f.0 = scan_refuses f.0 f.1 in
-            let why : f.0 ≡ e = cc in
-            subst (IsScanFault file) why f.1
+        | inl pass ↦ absurd (not_both (scan_passes pass) refused)
+        | inr f ↦ subst (IsScanFault file) (one_reason (scan_refuses f.0 f.1) refused) f.1
       ]
 
   pub scan_pass : (lens : Lengths) → scan_answer file ≡ Ok lens → PassesScan file
-  scan_pass lens same =
+  scan_pass lens accepted =
       elim pass_or_fault [
         | inl pass ↦ pass
-        | inr f ↦ let found : scan_answer file ≡ Err f.0 = scan_refuses f.0 f.1 in absurd (cc)
+        | inr f ↦ absurd (not_both accepted (scan_refuses f.0 f.1))
       ]
 
 -- no fault that the scan finds is that of a tag

@@ -1,0 +1,115 @@
+-- The verdict on a file, by what is wrong with it.
+use Rattle.std.proofs.Common.{◌≡◌, ℕ, ◌<◌, ◌≤◌, Bool, true, false, cond, eqb, leb, List, length, Ok, Err, Result, sym, refl, ap, ◌∙◌, subst, inl, inr, mod-eq_of_lt, lit<}
+use Rattle.std.proofs.lemmas.Bool.{cases_Bool, cases_lt, eq-eqb, le-leb, lt-leb, false_from_ne_true, true≢false}
+use Rattle.field.specs.Digits.{numeral}
+use Rattle.field.specs.declared.kinds.Block.{Block}
+use Rattle.field.proofs.Digits.{numeral_digits}
+use Rattle.message.specs.Blocks.{AreBytes}
+use Rattle.message.specs.Hash.{tag_of}
+use Rattle.refusal.specs.Refusals.{number_of}
+use Rattle.refusal.specs.declared.Refusal.{Refusal}
+use Rattle.refusal.specs.declared.Refusal.TheVariants.{HeaderTooLong, TagDiffers}
+use Rattle.format.specs.Faults.{header_in, body_in, tag_in}
+use Rattle.format.specs.Verdict.{after, lengths_of, first_pass, tag_verdict, verdict}
+use Rattle.format.specs.Flaws.{IsScanFault, PassesScan, HoldsTag, IsFault}
+use Rattle.format.specs.declared.lengths.Lengths.{Lengths}
+use Rattle.format.proofs.FirstPass.{not_both, one_reason}
+use Rattle.format.proofs.Laws.{sealed_tag, accepted_sealed}
+use Rattle.format.proofs.ScanFaults.{scan_passes, scan_refuses, pass_or_fault, scan_fault_other}
+
+-- ---- the first pass
+
+module _ (file : List ℕ) where
+  abbrev told : Lengths
+  told = lengths_of (header_in file) (body_in file)
+
+  -- the header's limit, looked at after the scan
+  abbrev limited : Lengths → Result Lengths Refusal
+  limited lens = cond (leb lens.header 65535) (Ok lens) (Err HeaderTooLong)
+
+  stops : (e : Refusal) → IsScanFault file e → first_pass file ≡ Err e
+  stops e h = ap (λ (r : Result Lengths Refusal). after r limited) (scan_refuses file e h)
+
+  goes_on : PassesScan file → first_pass file ≡ limited told
+  goes_on pass = ap (λ (r : Result Lengths Refusal). after r limited) (scan_passes file pass)
+
+  too_long : PassesScan file → 65535 < length (header_in file) → first_pass file ≡ Err HeaderTooLong
+  too_long pass long =
+      goes_on pass ∙ ap (λ (t : Bool). cond t (Ok told) (Err HeaderTooLong)) (lt-leb (length (header_in file)) 65535 long)
+
+  pub passes : PassesScan file → length (header_in file) ≤ 65535 → first_pass file ≡ Ok told
+  passes pass short =
+      goes_on pass ∙ ap (λ (t : Bool). cond t (Ok told) (Err HeaderTooLong)) (le-leb (length (header_in file)) 65535 short)
+
+  -- no refusal of the first pass is that of a tag
+  pub other_pass : (e : Refusal) → first_pass file ≡ Err e → eqb (number_of e) 8 ≡ false
+  other_pass e stopped =
+      elim (pass_or_fault file) [
+        | inr f ↦
+          subst (λ (o : Refusal). eqb (number_of o) 8 ≡ false) (one_reason (stops f.0 f.1) stopped) (scan_fault_other file f.0 f.1)
+        | inl pass ↦ elim (cases_lt 65535 (length (header_in file))) [
+          | inl long ↦ subst (λ (o : Refusal). eqb (number_of o) 8 ≡ false) (one_reason (too_long pass long) stopped) refl
+          | inr short ↦ absurd (not_both (passes pass short) stopped)
+        ]
+      ]
+
+-- ---- the verdict
+
+module _ (subkey pad : Block) (file : List ℕ) where
+  abbrev tag : Block
+  tag = tag_of subkey pad (header_in file) (body_in file)
+
+  abbrev is_tag_same : Bool
+  is_tag_same = eqb (numeral 256 (tag_in file)) tag.bits
+
+  refuses : (e : Refusal) → first_pass file ≡ Err e → verdict subkey pad file ≡ Err e
+  refuses e stopped = ap (λ (r : Result Lengths Refusal). after r (λ _. tag_verdict subkey pad file)) stopped
+
+  looks : PassesScan file → length (header_in file) ≤ 65535 → (t : Bool) → is_tag_same ≡ t → verdict subkey pad file ≡ cond t (Ok (told file)) (Err TagDiffers)
+  looks pass short t same =
+      ap (λ (r : Result Lengths Refusal). after r (λ _. tag_verdict subkey pad file)) (passes file pass short)
+      ∙ ap (λ (u : Bool). cond u (Ok (told file)) (Err TagDiffers)) same
+
+  -- a tag that the file holds reads as that tag
+  same_tag : HoldsTag subkey pad file → is_tag_same ≡ true
+  same_tag holds = eq-eqb (numeral 256 (tag_in file)) tag.bits (ap (numeral 256) holds ∙ numeral_digits 256 (lit< tt) 16 tag.bits ∙ mod-eq_of_lt tag.fits)
+
+  of_scan : (e : Refusal) → IsScanFault file e → IsFault subkey pad file e
+  of_scan HeaderTooLong h = absurd h
+  of_scan TagDiffers h = absurd h
+  of_scan other h = h
+
+  -- a refused file has the fault that it is refused for
+  pub verdict_fault : (e : Refusal) → verdict subkey pad file ≡ Err e → IsFault subkey pad file e
+  verdict_fault e refused =
+      elim (pass_or_fault file) [
+        | inr f ↦ subst (IsFault subkey pad file) (one_reason (refuses f.0 (stops file f.0 f.1)) refused) (of_scan f.0 f.1)
+        | inl pass ↦ elim (cases_lt 65535 (length (header_in file))) [
+          | inl long ↦
+            subst (IsFault subkey pad file) (one_reason (refuses HeaderTooLong (too_long file pass long)) refused) (pass, long)
+          | inr short ↦ elim (cases_Bool is_tag_same) [
+            | inl same ↦ absurd (not_both (looks pass short true same) refused)
+            | inr differs ↦
+              subst (IsFault subkey pad file) (one_reason (looks pass short false differs) refused)
+              (pass, short, (λ holds. true≢false (sym (same_tag holds) ∙ differs)))
+          ]
+        ]
+      ]
+
+  module _ (small : AreBytes file) where
+    -- in a file of bytes a tag that reads as this one is this one
+    holds_tag : PassesScan file → length (header_in file) ≤ 65535 → is_tag_same ≡ true → HoldsTag subkey pad file
+    holds_tag pass short same =
+        ap tag_in (accepted_sealed subkey pad file (told file) small (looks pass short true same))
+        ∙ sealed_tag subkey pad (header_in file) (body_in file)
+
+    -- a file of bytes is refused for each fault that it has
+    pub fault_verdict : (e : Refusal) → IsFault subkey pad file e → verdict subkey pad file ≡ Err e
+    fault_verdict HeaderTooLong h = refuses HeaderTooLong (too_long file h.0 h.1)
+    fault_verdict TagDiffers h =
+        looks h.0 h.1 false (false_from_ne_true is_tag_same (λ same. h.2 (holds_tag h.0 h.1 same)))
+    fault_verdict other h = refuses other (stops file other h)
+
+    -- so it has one at most
+    pub one_fault : (e f : Refusal) → IsFault subkey pad file e → IsFault subkey pad file f → e ≡ f
+    one_fault e f this that = one_reason (fault_verdict e this) (fault_verdict f that)
