@@ -1,55 +1,75 @@
--- What the first pass found of a file that it lets through.
-use Rattle.std.proofs.Common.{◌≡◌, ℕ, ◌/◌, ◌≤◌, Bool, true, false, cond, eqb, leb, List, length, Ok, Err, Result, sym, refl, ◌∙◌, subst}
-use Rattle.std.proofs.lemmas.Bool.{eqb-true, leb-true}
+-- The first pass of a file, by what is wrong with it.
+use Rattle.std.proofs.Common.{◌≡◌, ℕ, ◌<◌, ◌≤◌, Bool, true, false, cond, eqb, leb, List, length, Ok, Err, Result, refl, ap, ◌∙◌, subst, inl, inr}
+use Rattle.std.proofs.lemmas.Bool.{cases_lt, le-leb, lt-leb}
+use Rattle.refusal.specs.Refusals.{number_of}
 use Rattle.refusal.specs.declared.Refusal.{Refusal}
-use Rattle.refusal.specs.declared.Refusal.TheVariants.{HeaderTooLong, FileSize, NoEnd}
-use Rattle.format.specs.Faults.{Previous, first, blocks_of, is_size_good, scanned, header_in, body_in}
-use Rattle.format.specs.Verdict.{after, lengths_of, scan_answer, first_pass}
+use Rattle.refusal.specs.declared.Refusal.TheVariants.{HeaderTooLong}
+use Rattle.format.specs.Faults.{Previous, first, blocks_of, is_size_good, previous_at, scanned, header_in, body_in}
+use Rattle.format.specs.Verdict.{after, lengths_of, first_pass}
+use Rattle.format.specs.Flaws.{block_count, IsScanFault, PassesScan}
 use Rattle.format.specs.declared.lengths.Lengths.{Lengths}
+use Rattle.format.proofs.Results.{one_value, not_both, one_reason}
+use Rattle.format.proofs.ScanFaults.{size_decides, scan_flawless, last_kind, scan_passes, scan_refuses, pass_or_fault, scan_fault_other}
 
--- a step before another ended well
-pub came : {T U : Type 0} (r : Result T Refusal) (f : T → Result U Refusal) (x : U) → after r f ≡ Ok x → (z : T) × (r ≡ Ok z) × (f z ≡ Ok x)
-came (Ok z) f x e = (z, refl, e)
-came (Err y) f x e = absurd (cc)
-
--- a test before an answer was passed
-pub test_passed : {T : Type 0} (t : Bool) (r : Result T Refusal) (why : Refusal) (x : T) → cond t r (Err why) ≡ Ok x → (t ≡ true) × (r ≡ Ok x)
-test_passed true r why x e = (refl, e)
-test_passed false r why x e = absurd (cc)
-
--- an answer is either, and a refusal for one reason
-pub not_both : {T : Type 0} {r : Result T Refusal} {x : T} {why : Refusal} → r ≡ Ok x → r ≡ Err why → ⊥
-not_both a b = cc
-
-pub one_reason : {T : Type 0} {r : Result T Refusal} {e f : Refusal} → r ≡ Err e → r ≡ Err f → e ≡ f
-one_reason a b = cc
-
+-- what is known of a file that the first pass lets through
 pub record Passed (file : List ℕ) : Type 0 where
+  pub pass : PassesScan file
   pub size : is_size_good file ≡ true
   pub last : Previous
   pub scan : scanned 0 first (blocks_of file) ≡ Ok last
   pub end : last.kind ≡ 3
   pub short : length (header_in file) ≤ 65535
 
-pub passed : (file : List ℕ) (lens : Lengths) → first_pass file ≡ Ok lens → Passed file × (lens ≡ lengths_of (header_in file) (body_in file))
-passed file lens e =
-    let told : Lengths = lengths_of (header_in file) (body_in file) in
-    let at_end : Previous → Result Lengths Refusal = λ last. cond (eqb last.kind 3) (Ok told) (Err (NoEnd (length file / 512))) in
-    let limited : Lengths → Result Lengths Refusal = λ l. cond (leb l.header 65535) (Ok l) (Err HeaderTooLong) in
-    let whole = came (scan_answer file) limited lens e in
-    let found : Lengths = whole.0 in
-    let size = test_passed (is_size_good file) (after (scanned 0 first (blocks_of file)) at_end) FileSize found whole.1 in
-    let scan = came (scanned 0 first (blocks_of file)) at_end found size.1 in
-    let end = test_passed (eqb scan.0.kind 3) (Ok told) (NoEnd (length file / 512)) found scan.2 in
-    let limit = test_passed (leb found.header 65535) (Ok found) HeaderTooLong lens whole.2 in
-    let read : told ≡ found = cc in
-    let said : found ≡ lens = cc in (
-      record {
-        size = size.0;
-        last = scan.0;
-        scan = scan.1;
-        end = eqb-true scan.0.kind 3 end.0;
-        short = subst (λ (l : Lengths). l.header ≤ 65535) (sym read) (leb-true found.header 65535 limit.0);
-      },
-      sym (read ∙ said),
-    )
+module _ (file : List ℕ) where
+  abbrev pub told : Lengths
+  told = lengths_of (header_in file) (body_in file)
+
+  -- the header's limit, looked at after the scan
+  abbrev limited : Lengths → Result Lengths Refusal
+  limited lens = cond (leb lens.header 65535) (Ok lens) (Err HeaderTooLong)
+
+  pub stops : (e : Refusal) → IsScanFault file e → first_pass file ≡ Err e
+  stops e h = ap (λ (r : Result Lengths Refusal). after r limited) (scan_refuses file e h)
+
+  goes_on : PassesScan file → first_pass file ≡ limited told
+  goes_on pass = ap (λ (r : Result Lengths Refusal). after r limited) (scan_passes file pass)
+
+  pub too_long : PassesScan file → 65535 < length (header_in file) → first_pass file ≡ Err HeaderTooLong
+  too_long pass long =
+      goes_on pass ∙ ap (λ (t : Bool). cond t (Ok told) (Err HeaderTooLong)) (lt-leb (length (header_in file)) 65535 long)
+
+  pub passes : PassesScan file → length (header_in file) ≤ 65535 → first_pass file ≡ Ok told
+  passes pass short =
+      goes_on pass ∙ ap (λ (t : Bool). cond t (Ok told) (Err HeaderTooLong)) (le-leb (length (header_in file)) 65535 short)
+
+  -- no refusal of the first pass is that of a tag
+  pub other_pass : (e : Refusal) → first_pass file ≡ Err e → eqb (number_of e) 8 ≡ false
+  other_pass e stopped =
+      elim (pass_or_fault file) [
+        | inr f ↦
+          subst (λ (o : Refusal). eqb (number_of o) 8 ≡ false) (one_reason (stops f.0 f.1) stopped) (scan_fault_other file f.0 f.1)
+        | inl pass ↦ elim (cases_lt 65535 (length (header_in file))) [
+          | inl long ↦ subst (λ (o : Refusal). eqb (number_of o) 8 ≡ false) (one_reason (too_long pass long) stopped) refl
+          | inr short ↦ absurd (not_both (passes pass short) stopped)
+        ]
+      ]
+
+  pub passed : (lens : Lengths) → first_pass file ≡ Ok lens → Passed file × (lens ≡ told)
+  passed lens accepted =
+      elim (pass_or_fault file) [
+        | inr f ↦ absurd (not_both accepted (stops f.0 f.1))
+        | inl pass ↦ elim (cases_lt 65535 (length (header_in file))) [
+          | inl long ↦ absurd (not_both accepted (too_long pass long))
+          | inr short ↦ (
+            record {
+              pass = pass;
+              size = (size_decides file).1 pass.size;
+              last = previous_at file (block_count file);
+              scan = scan_flawless file pass.blocks;
+              end = last_kind file pass.size ∙ pass.end;
+              short = short;
+            },
+            one_value accepted (passes pass short),
+          )
+        ]
+      ]

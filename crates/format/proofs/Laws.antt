@@ -1,6 +1,6 @@
 -- The check accepts sealed files and no others.
-use Rattle.std.proofs.Common.{◌≡◌, ℕ, ◌+◌, ◌*◌, ◌/◌, ◌%◌, ◌≤◌, true, eqb, List, map, length, Ok, Err, Result, sym, refl, ap, ◌∙◌, subst, ap₂, mod-eq_of_lt, arith, lit<}
-use Rattle.std.specs.Prelude.{IsOk, IfOk, is_ok}
+use Rattle.std.proofs.Common.{◌≡◌, ℕ, ◌+◌, ◌*◌, ◌/◌, ◌≤◌, true, eqb, List, map, length, Ok, sym, ap, ◌∙◌, subst, ap₂, mod-eq_of_lt, arith, lit<}
+use Rattle.std.specs.Prelude.{is_ok}
 use Rattle.std.proofs.lemmas.Bool.{eqb-true}
 use Rattle.std.proofs.lemmas.Bool.Decides.{nat_tests}
 use Rattle.field.specs.Bytes.{bytes_of}
@@ -14,10 +14,12 @@ use Rattle.refusal.specs.declared.Refusal.TheVariants.{TagDiffers}
 use Rattle.format.specs.Layout.{Content, contents, laid, sealed, blocks_for}
 use Rattle.format.specs.Faults.{first, rows_of, blocks_of, is_size_good, scanned, data_of, header_in, body_in, tag_in}
 use Rattle.format.specs.Verdict.{lengths_of, first_pass, tag_verdict, verdict, IsSealOf, Exact, Reopens}
+use Rattle.format.specs.Flaws.{HasFileSize}
 use Rattle.format.specs.declared.lengths.Lengths.{Lengths}
 use Rattle.format.proofs.BlockFields.{content_of}
 use Rattle.format.proofs.Sequences.{Follows, part_of, Whole, in_order, contents_follow, header_part, body_part, tag_part, length_contents}
-use Rattle.format.proofs.FirstPass.{Passed, came, test_passed, passed}
+use Rattle.format.proofs.Results.{came, test_passed, value_of, if_value}
+use Rattle.format.proofs.FirstPass.{Passed, passed}
 use Rattle.format.proofs.Scans.{scanned_laid, block_rows, length_laid_all, rows_laid, rows_contents, rows_scanned, data_part, read_small}
 
 -- ---- what is read out of a sealed file
@@ -102,7 +104,7 @@ module _ (subkey pad : Block) (header body : List ℕ) where
 
 -- what the check found of a file that it accepts
 record Accepted (subkey pad : Block) (file : List ℕ) (lens : Lengths) : Type 0 where
-  pub pass : Passed file
+  pub through : Passed file
   pub tagged : numeral 256 (tag_in file) ≡ (tag_of subkey pad (header_in file) (body_in file)).bits
   pub read : lens ≡ lengths_of (header_in file) (body_in file)
 
@@ -113,7 +115,7 @@ accepted_parts subkey pad file lens e =
     let two = came (first_pass file) (λ _. tag_verdict subkey pad file) lens e in
     let same = test_passed (eqb (numeral 256 (tag_in file)) tag.bits) (Ok told) TagDiffers lens two.2 in
     record {
-      pass = (passed file two.0 two.1).0;
+      through = (passed file two.0 two.1).0;
       tagged = eqb-true (numeral 256 (tag_in file)) tag.bits same.0;
       read = cc;
     }
@@ -125,8 +127,8 @@ unfolding blocks_of sealed
 accepted_sealed subkey pad file lens small e =
     let a : Accepted subkey pad file lens = accepted_parts subkey pad file lens e in
     let m : ℕ = length file / 512 in
-    let whole : length file % 512 ≡ 0 = grind (arith, nat_tests, a.pass.size) in
-    let found = scanned_laid m 0 first a.pass.last file (omega arith) small a.pass.scan a.pass.end in
+    let size : HasFileSize file = a.through.pass.size in
+    let found = scanned_laid m 0 first a.through.last file (omega arith) small a.through.scan a.through.end in
     let cs : List Content = map content_of (rows_of m file) in
     let ordered : Whole cs = in_order first cs found.1 (omega arith) in
     let part : (kind : ℕ) → part_of kind cs ≡ data_of kind (rows_of m file) = λ kind. sym (data_part kind (rows_of m file)) in
@@ -145,25 +147,15 @@ reopens subkey pad header body short count = record {
   body_again = sealed_body subkey pad header body;
 }
 
--- the value of a result that has one
-value_of : {T E : Type 0} (r : Result T E) → IsOk r → (x : T) × (r ≡ Ok x)
-value_of (Ok x) e = (x, refl)
-value_of (Err y) e = absurd (cc)
-
--- a result of which something is known where it is a value
-if_value : {T E : Type 0} (r : Result T E) (P : T → Type 0) → ((x : T) → r ≡ Ok x → P x) → IfOk r P
-if_value (Ok x) P known = known x refl
-if_value (Err e) P known = tt
-
 module _ (subkey pad : Block) (file : List ℕ) (small : AreBytes file) where
   -- an accepted file is what the writer makes
   pub accepted_seal : (lens : Lengths) → verdict subkey pad file ≡ Ok lens → IsSealOf subkey pad (header_in file) (body_in file) file
   accepted_seal lens e =
-      let pass : Passed file = (accepted_parts subkey pad file lens e).pass in
+      let through : Passed file = (accepted_parts subkey pad file lens e).through in
       let made : file ≡ sealed subkey pad (header_in file) (body_in file) = accepted_sealed subkey pad file lens small e in
-      let few : length file ≤ 33554432 = grind (arith, nat_tests, pass.size) in
+      let size : HasFileSize file = through.pass.size in
       let long = ap length made ∙ length_sealed subkey pad (header_in file) (body_in file) in
-      record { short = pass.short; few = omega (arith, long); made = made }
+      record { short = through.short; few = omega (arith, long); made = made }
 
   -- what the writer makes is accepted
   pub seal_accepted : (header body : List ℕ) → IsSealOf subkey pad header body file → verdict subkey pad file ≡ Ok (lengths_of header body)

@@ -11,7 +11,7 @@ use Rattle.format.specs.Faults.{Previous, first, previous, rows_of, blocks_of, i
 use Rattle.format.specs.Verdict.{after, lengths_of, scan_answer}
 use Rattle.format.specs.Flaws.{Flaw, check, number, form, order, IsSound, block_count, HasFileSize, IsFlawless, IsFirstFlaw, IsScanFault, PassesScan}
 use Rattle.format.specs.declared.lengths.Lengths.{Lengths}
-use Rattle.format.proofs.FirstPass.{not_both, one_reason}
+use Rattle.format.proofs.Results.{not_both, one_reason}
 use Rattle.format.proofs.BlockFlaws.{refusal_of, sound_or_flawed, no_fault, first_fault}
 
 -- ---- block by block
@@ -32,7 +32,7 @@ scan_from (suc k) m n file all sound =
     scan_from k (suc m) n file (omega arith) (λ j less. sound j (omega arith)) ∙ scan_step k m file (sound k (omega arith))
 
 -- all blocks
-scan_flawless : (file : List ℕ) → IsFlawless file → scanned 0 first (blocks_of file) ≡ Ok (previous_at file (block_count file))
+pub scan_flawless : (file : List ℕ) → IsFlawless file → scanned 0 first (blocks_of file) ≡ Ok (previous_at file (block_count file))
 unfolding blocks_of
 scan_flawless file sound = scan_from (block_count file) 0 (block_count file) file (omega arith) sound
 
@@ -73,7 +73,7 @@ size_decides file = (
 )
 
 -- the last block's kind, as the scan of a file with some blocks knows it
-last_kind : (file : List ℕ) → HasFileSize file → (previous_at file (block_count file)).kind ≡ kind_in (block_at file (block_count file - 1))
+pub last_kind : (file : List ℕ) → HasFileSize file → (previous_at file (block_count file)).kind ≡ kind_in (block_at file (block_count file - 1))
 last_kind file size =
     let some : 1 ≤ block_count file = size.some in
     let last : block_count file ≡ suc (block_count file - 1) = omega arith in

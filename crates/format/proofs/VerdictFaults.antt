@@ -1,59 +1,22 @@
 -- The verdict on a file, by what is wrong with it.
-use Rattle.std.proofs.Common.{◌≡◌, ℕ, ◌<◌, ◌≤◌, Bool, true, false, cond, eqb, leb, List, length, Ok, Err, Result, sym, refl, ap, ◌∙◌, subst, inl, inr, mod-eq_of_lt, lit<}
-use Rattle.std.proofs.lemmas.Bool.{cases_Bool, cases_lt, eq-eqb, le-leb, lt-leb, false_from_ne_true, true≢false}
+use Rattle.std.proofs.Common.{◌≡◌, ℕ, ◌≤◌, Bool, true, false, cond, eqb, List, length, Ok, Err, Result, sym, ap, ◌∙◌, subst, inl, inr, mod-eq_of_lt, lit<}
+use Rattle.std.specs.Prelude.{IfErr}
+use Rattle.std.proofs.lemmas.Bool.{cases_Bool, cases_lt, eq-eqb, false_from_ne_true, true≢false}
 use Rattle.field.specs.Digits.{numeral}
 use Rattle.field.specs.declared.kinds.Block.{Block}
 use Rattle.field.proofs.Digits.{numeral_digits}
 use Rattle.message.specs.Blocks.{AreBytes}
 use Rattle.message.specs.Hash.{tag_of}
-use Rattle.refusal.specs.Refusals.{number_of}
 use Rattle.refusal.specs.declared.Refusal.{Refusal}
 use Rattle.refusal.specs.declared.Refusal.TheVariants.{HeaderTooLong, TagDiffers}
 use Rattle.format.specs.Faults.{header_in, body_in, tag_in}
-use Rattle.format.specs.Verdict.{after, lengths_of, first_pass, tag_verdict, verdict}
+use Rattle.format.specs.Verdict.{after, first_pass, tag_verdict, verdict}
 use Rattle.format.specs.Flaws.{IsScanFault, PassesScan, HoldsTag, IsFault}
 use Rattle.format.specs.declared.lengths.Lengths.{Lengths}
-use Rattle.format.proofs.FirstPass.{not_both, one_reason}
+use Rattle.format.proofs.Results.{not_both, one_reason, if_refusal}
+use Rattle.format.proofs.FirstPass.{told, stops, too_long, passes}
 use Rattle.format.proofs.Laws.{sealed_tag, accepted_sealed}
-use Rattle.format.proofs.ScanFaults.{scan_passes, scan_refuses, pass_or_fault, scan_fault_other}
-
--- ---- the first pass
-
-module _ (file : List ℕ) where
-  abbrev told : Lengths
-  told = lengths_of (header_in file) (body_in file)
-
-  -- the header's limit, looked at after the scan
-  abbrev limited : Lengths → Result Lengths Refusal
-  limited lens = cond (leb lens.header 65535) (Ok lens) (Err HeaderTooLong)
-
-  stops : (e : Refusal) → IsScanFault file e → first_pass file ≡ Err e
-  stops e h = ap (λ (r : Result Lengths Refusal). after r limited) (scan_refuses file e h)
-
-  goes_on : PassesScan file → first_pass file ≡ limited told
-  goes_on pass = ap (λ (r : Result Lengths Refusal). after r limited) (scan_passes file pass)
-
-  too_long : PassesScan file → 65535 < length (header_in file) → first_pass file ≡ Err HeaderTooLong
-  too_long pass long =
-      goes_on pass ∙ ap (λ (t : Bool). cond t (Ok told) (Err HeaderTooLong)) (lt-leb (length (header_in file)) 65535 long)
-
-  pub passes : PassesScan file → length (header_in file) ≤ 65535 → first_pass file ≡ Ok told
-  passes pass short =
-      goes_on pass ∙ ap (λ (t : Bool). cond t (Ok told) (Err HeaderTooLong)) (le-leb (length (header_in file)) 65535 short)
-
-  -- no refusal of the first pass is that of a tag
-  pub other_pass : (e : Refusal) → first_pass file ≡ Err e → eqb (number_of e) 8 ≡ false
-  other_pass e stopped =
-      elim (pass_or_fault file) [
-        | inr f ↦
-          subst (λ (o : Refusal). eqb (number_of o) 8 ≡ false) (one_reason (stops f.0 f.1) stopped) (scan_fault_other file f.0 f.1)
-        | inl pass ↦ elim (cases_lt 65535 (length (header_in file))) [
-          | inl long ↦ subst (λ (o : Refusal). eqb (number_of o) 8 ≡ false) (one_reason (too_long pass long) stopped) refl
-          | inr short ↦ absurd (not_both (passes pass short) stopped)
-        ]
-      ]
-
--- ---- the verdict
+use Rattle.format.proofs.ScanFaults.{pass_or_fault}
 
 module _ (subkey pad : Block) (file : List ℕ) where
   abbrev tag : Block
@@ -95,6 +58,10 @@ module _ (subkey pad : Block) (file : List ℕ) where
           ]
         ]
       ]
+
+  -- as a clause says it of an answer
+  pub explained : IfErr (verdict subkey pad file) (IsFault subkey pad file)
+  explained = if_refusal (verdict subkey pad file) (IsFault subkey pad file) verdict_fault
 
   module _ (small : AreBytes file) where
     -- in a file of bytes a tag that reads as this one is this one
