@@ -8,7 +8,7 @@ use Rattle.refusal.specs.declared.Refusal.{Refusal}
 use Rattle.refusal.specs.declared.Refusal.TheVariants.{WrongCheck, WrongNumber, WrongForm, WrongOrder}
 use Rattle.format.specs.Layout.{check_of}
 use Rattle.format.specs.Faults.{Previous, number_in, kind_in, fill_in, check_in, is_all_zero, is_form_good, is_order_good, fault_of, block_at, previous_at}
-use Rattle.format.specs.Flaws.{IsFormed, MayFollow, Flaw, check, number, form, order, turn_of, IsFreeOf, IsBlockFlaw, IsSound, IsBlockFault}
+use Rattle.format.specs.Flaws.{IsFormed, MayFollow, Flaw, check, number, form, order, turn_of, IsFreeOf, IsBlockFlaw, HasNoFlaw, IsBlockFault}
 use Rattle.format.proofs.BlockFields.{Form, form_parts}
 
 -- ---- the tests
@@ -121,7 +121,7 @@ module _ (file : List ℕ) (k : ℕ) where
   fault_at = fault_of k (previous_at file k) (block_at file k)
 
   -- a block is sound, or one of its flaws is met first
-  pub sound_or_flawed : IsSound file k ⊎ ((flaw : Flaw) × IsBlockFlaw file k flaw)
+  pub sound_or_flawed : HasNoFlaw file k ⊎ ((flaw : Flaw) × IsBlockFlaw file k flaw)
   sound_or_flawed =
       elim (failed_or_none (is_free file k)) [
         | inl all ↦ inl (λ flaw. (free_decides file k flaw).0 (all flaw))
@@ -134,7 +134,7 @@ module _ (file : List ℕ) (k : ℕ) where
         )
       ]
 
-  pub no_fault : IsSound file k → fault_at ≡ None
+  pub no_fault : HasNoFlaw file k → fault_at ≡ None
   no_fault sound = none_failed (is_free file k) k (λ flaw. (free_decides file k flaw).1 (sound flaw))
 
   pub first_fault : (flaw : Flaw) → IsBlockFlaw file k flaw → fault_at ≡ Some (refusal_of flaw k)
@@ -161,7 +161,7 @@ module _ (file : List ℕ) (k : ℕ) where
             subst (IsBlockFault file k) why (named_flaw f.0 f.1)
       ]
 
-  pub sound_is : fault_at ≡ None → IsSound file k
+  pub sound_is : fault_at ≡ None → HasNoFlaw file k
   sound_is none =
       elim sound_or_flawed [
         | inl sound ↦ sound

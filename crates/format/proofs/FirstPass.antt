@@ -47,7 +47,7 @@ module _ (file : List ℕ) where
   other_pass e stopped =
       elim (pass_or_fault file) [
         | inr f ↦
-          subst (λ (o : Refusal). eqb (number_of o) 8 ≡ false) (one_reason (stops f.0 f.1) stopped) (scan_fault_other file f.0 f.1)
+            subst (λ (o : Refusal). eqb (number_of o) 8 ≡ false) (one_reason (stops f.0 f.1) stopped) (scan_fault_other file f.0 f.1)
         | inl pass ↦ elim (cases_lt 65535 (length (header_in file))) [
           | inl long ↦ subst (λ (o : Refusal). eqb (number_of o) 8 ≡ false) (one_reason (too_long pass long) stopped) refl
           | inr short ↦ absurd (not_both (passes pass short) stopped)

@@ -9,7 +9,7 @@ use Rattle.refusal.specs.declared.Refusal.{Refusal}
 use Rattle.refusal.specs.declared.Refusal.TheVariants.{TagDiffers, FileSize, WrongCheck, WrongNumber, WrongForm, WrongOrder, NoEnd}
 use Rattle.format.specs.Faults.{Previous, first, previous, rows_of, blocks_of, is_size_good, kind_in, block_at, previous_at, on_fault, scanned, header_in, body_in}
 use Rattle.format.specs.Verdict.{after, lengths_of, scan_answer}
-use Rattle.format.specs.Flaws.{Flaw, check, number, form, order, IsSound, block_count, HasFileSize, IsFlawless, IsFirstFlaw, IsScanFault, PassesScan}
+use Rattle.format.specs.Flaws.{Flaw, check, number, form, order, HasNoFlaw, block_count, HasFileSize, IsFlawless, IsFirstFlaw, IsScanFault, PassesScan}
 use Rattle.format.specs.declared.lengths.Lengths.{Lengths}
 use Rattle.format.proofs.Results.{not_both, one_reason}
 use Rattle.format.proofs.BlockFlaws.{refusal_of, sound_or_flawed, no_fault, first_fault}
@@ -17,7 +17,7 @@ use Rattle.format.proofs.BlockFlaws.{refusal_of, sound_or_flawed, no_fault, firs
 -- ---- block by block
 
 -- one block with no flaw
-scan_step : (k m : ℕ) (file : List ℕ) → IsSound file k
+scan_step : (k m : ℕ) (file : List ℕ) → HasNoFlaw file k
     → scanned k (previous_at file k) (rows_of (suc m) (drop (512 * k) file)) ≡ scanned (suc k) (previous_at file (suc k)) (rows_of m (drop (512 * suc k) file))
 scan_step k m file sound =
     let further : 512 * k + 512 ≡ 512 * suc k = omega arith in
@@ -25,7 +25,7 @@ scan_step k m file sound =
     λ i. on_fault (no_fault file k sound i) (scanned (suc k) (previous (block_at file k)) (rows_of m (rest i)))
 
 -- k blocks with no flaw
-pub scan_from : (k m n : ℕ) (file : List ℕ) → k + m ≡ n → ((j : ℕ) → j < k → IsSound file j)
+pub scan_from : (k m n : ℕ) (file : List ℕ) → k + m ≡ n → ((j : ℕ) → j < k → HasNoFlaw file j)
     → scanned 0 first (rows_of n file) ≡ scanned k (previous_at file k) (rows_of m (drop (512 * k) file))
 scan_from zero m n file all sound = let same : n ≡ m = omega arith in ap (λ (j : ℕ). scanned 0 first (rows_of j file)) same
 scan_from (suc k) m n file all sound =
@@ -46,14 +46,14 @@ scan_flawed file k flaw f =
     ∙ ap (λ (o : Option Refusal). on_fault o (scanned (suc k) (previous (block_at file k)) (rows_of m (drop 512 (drop (512 * k) file))))) (first_fault file k flaw f.here)
 
 -- the first n blocks have no flaw, or one of them is the first that has
-flaw_below : (n : ℕ) (file : List ℕ) → n ≤ block_count file → ((k : ℕ) → k < n → IsSound file k) ⊎ ((k : ℕ) × (flaw : Flaw) × IsFirstFlaw file k flaw)
+flaw_below : (n : ℕ) (file : List ℕ) → n ≤ block_count file → ((k : ℕ) → k < n → HasNoFlaw file k) ⊎ ((k : ℕ) × (flaw : Flaw) × IsFirstFlaw file k flaw)
 flaw_below zero file within = inl (λ k less. absurd (omega arith))
 flaw_below (suc n) file within =
     elim (flaw_below n file (omega arith)) [
       | inr f ↦ inr f
       | inl sound ↦ elim (sound_or_flawed file n) [
         | inl here ↦ inl (λ k less. elim (cases_eq k n) [
-          | inl same ↦ subst (IsSound file) (sym same) here
+          | inl same ↦ subst (HasNoFlaw file) (sym same) here
           | inr other ↦ sound k (omega arith)
         ])
         | inr flaw ↦ inr (n, flaw.0, record { within = omega arith; here = flaw.1; before = sound })
@@ -115,10 +115,10 @@ module _ (file : List ℕ) where
   scan_refuses (WrongForm k) h = flawed k form h.0 h.1
   scan_refuses (WrongOrder k) h = flawed k order h.0 h.1
   scan_refuses (NoEnd n) h =
-      flawless h.0 h.1
+      flawless h.0.size h.0.blocks
       ∙ ap (λ (t : Bool). cond t (Ok told) (Err (NoEnd (length file / 512))))
-      (false_from_ne_true (eqb (kind_in (block_at file (block_count file - 1))) 3) (λ e. h.2 ((Decides-eqb _ 3).0 e)))
-      ∙ ap (λ (j : ℕ). Err (NoEnd j)) (sym h.3)
+      (false_from_ne_true (eqb (kind_in (block_at file (block_count file - 1))) 3) (λ e. h.0.no_end ((Decides-eqb _ 3).0 e)))
+      ∙ ap (λ (j : ℕ). Err (NoEnd j)) (sym h.1)
   scan_refuses other h = absurd h
 
   named_first : (k : ℕ) (flaw : Flaw) → HasFileSize file → IsFirstFlaw file k flaw → IsScanFault file (refusal_of flaw k)
@@ -138,7 +138,7 @@ module _ (file : List ℕ) where
               | inr f ↦ inr (refusal_of f.1 f.0, named_first f.0 f.1 size f.2)
               | inl sound ↦ elim (cases_eq (kind_in (block_at file (block_count file - 1))) 3) [
                 | inl end ↦ inl (record { size = size; blocks = sound; end = end })
-                | inr other ↦ inr (NoEnd (block_count file), (size, sound, other, refl))
+                | inr other ↦ inr (NoEnd (block_count file), (record { size = size; blocks = sound; no_end = other }, refl))
               ]
             ]
       ]

@@ -1,7 +1,8 @@
 -- The verdict on a file, by what is wrong with it.
-use Rattle.std.proofs.Common.{◌≡◌, ℕ, ◌≤◌, Bool, true, false, cond, eqb, List, length, Ok, Err, Result, sym, ap, ◌∙◌, subst, inl, inr, mod-eq_of_lt, lit<}
+use Rattle.std.proofs.Common.{◌≡◌, ℕ, ◌≤◌, Bool, true, false, cond, eqb, List, length, Ok, Err, Result, sym, refl, ap, ◌∙◌, subst, inl, inr, mod-eq_of_lt, lit<}
 use Rattle.std.specs.Prelude.{IfErr}
 use Rattle.std.proofs.lemmas.Bool.{cases_Bool, cases_lt, eq-eqb, false_from_ne_true, true≢false}
+use Rattle.field.specs.Bytes.{bytes_of}
 use Rattle.field.specs.Digits.{numeral}
 use Rattle.field.specs.declared.kinds.Block.{Block}
 use Rattle.field.proofs.Digits.{numeral_digits}
@@ -10,12 +11,12 @@ use Rattle.message.specs.Hash.{tag_of}
 use Rattle.refusal.specs.declared.Refusal.{Refusal}
 use Rattle.refusal.specs.declared.Refusal.TheVariants.{HeaderTooLong, TagDiffers}
 use Rattle.format.specs.Faults.{header_in, body_in, tag_in}
-use Rattle.format.specs.Verdict.{after, first_pass, tag_verdict, verdict}
-use Rattle.format.specs.Flaws.{IsScanFault, PassesScan, HoldsTag, IsFault}
+use Rattle.format.specs.Verdict.{after, first_pass, tag_verdict, verdict, Exact}
+use Rattle.format.specs.Flaws.{IsScanFault, PassesScan, IsFault}
 use Rattle.format.specs.declared.lengths.Lengths.{Lengths}
 use Rattle.format.proofs.Results.{not_both, one_reason, if_refusal}
 use Rattle.format.proofs.FirstPass.{told, stops, too_long, passes}
-use Rattle.format.proofs.Laws.{sealed_tag, accepted_sealed}
+use Rattle.format.proofs.Laws.{sealed_tag, accepted_sealed, seal_accepted}
 use Rattle.format.proofs.ScanFaults.{pass_or_fault}
 
 module _ (subkey pad : Block) (file : List ℕ) where
@@ -33,8 +34,11 @@ module _ (subkey pad : Block) (file : List ℕ) where
       ap (λ (r : Result Lengths Refusal). after r (λ _. tag_verdict subkey pad file)) (passes file pass short)
       ∙ ap (λ (u : Bool). cond u (Ok (told file)) (Err TagDiffers)) same
 
-  -- a tag that the file holds reads as that tag
-  same_tag : HoldsTag subkey pad file → is_tag_same ≡ true
+  -- the file holds the tag of what is read out of it, and a tag that it holds reads as that one
+  abbrev HoldsTag : Type 0
+  HoldsTag = tag_in file ≡ bytes_of tag
+
+  same_tag : HoldsTag → is_tag_same ≡ true
   same_tag holds = eq-eqb (numeral 256 (tag_in file)) tag.bits (ap (numeral 256) holds ∙ numeral_digits 256 (lit< tt) 16 tag.bits ∙ mod-eq_of_lt tag.fits)
 
   of_scan : (e : Refusal) → IsScanFault file e → IsFault subkey pad file e
@@ -49,12 +53,12 @@ module _ (subkey pad : Block) (file : List ℕ) where
         | inr f ↦ subst (IsFault subkey pad file) (one_reason (refuses f.0 (stops file f.0 f.1)) refused) (of_scan f.0 f.1)
         | inl pass ↦ elim (cases_lt 65535 (length (header_in file))) [
           | inl long ↦
-            subst (IsFault subkey pad file) (one_reason (refuses HeaderTooLong (too_long file pass long)) refused) (pass, long)
+              subst (IsFault subkey pad file) (one_reason (refuses HeaderTooLong (too_long file pass long)) refused) (record { scan = pass; long = long })
           | inr short ↦ elim (cases_Bool is_tag_same) [
             | inl same ↦ absurd (not_both (looks pass short true same) refused)
             | inr differs ↦
-              subst (IsFault subkey pad file) (one_reason (looks pass short false differs) refused)
-              (pass, short, (λ holds. true≢false (sym (same_tag holds) ∙ differs)))
+                subst (IsFault subkey pad file) (one_reason (looks pass short false differs) refused)
+                (record { scan = pass; short = short; other = λ holds. true≢false (sym (same_tag holds) ∙ differs) })
           ]
         ]
       ]
@@ -65,18 +69,25 @@ module _ (subkey pad : Block) (file : List ℕ) where
 
   module _ (small : AreBytes file) where
     -- in a file of bytes a tag that reads as this one is this one
-    holds_tag : PassesScan file → length (header_in file) ≤ 65535 → is_tag_same ≡ true → HoldsTag subkey pad file
+    holds_tag : PassesScan file → length (header_in file) ≤ 65535 → is_tag_same ≡ true → HoldsTag
     holds_tag pass short same =
         ap tag_in (accepted_sealed subkey pad file (told file) small (looks pass short true same))
         ∙ sealed_tag subkey pad (header_in file) (body_in file)
 
     -- a file of bytes is refused for each fault that it has
     pub fault_verdict : (e : Refusal) → IsFault subkey pad file e → verdict subkey pad file ≡ Err e
-    fault_verdict HeaderTooLong h = refuses HeaderTooLong (too_long file h.0 h.1)
+    fault_verdict HeaderTooLong h = refuses HeaderTooLong (too_long file h.scan h.long)
     fault_verdict TagDiffers h =
-        looks h.0 h.1 false (false_from_ne_true is_tag_same (λ same. h.2 (holds_tag h.0 h.1 same)))
+        looks h.scan h.short false (false_from_ne_true is_tag_same (λ same. h.other (holds_tag h.scan h.short same)))
     fault_verdict other h = refuses other (stops file other h)
 
     -- so it has one at most
     pub one_fault : (e f : Refusal) → IsFault subkey pad file e → IsFault subkey pad file f → e ≡ f
     one_fault e f this that = one_reason (fault_verdict e this) (fault_verdict f that)
+
+    -- Exact and IsFault together leave one answer
+    pub fixed : (answer : Result Lengths Refusal) → Exact subkey pad file answer → IfErr answer (IsFault subkey pad file) → answer ≡ verdict subkey pad file
+    fixed (Ok lens) law known =
+        ap (λ (l : Lengths). Ok l) law.lengths
+        ∙ sym (seal_accepted subkey pad file small (header_in file) (body_in file) (law.exactly.0 refl))
+    fixed (Err e) law known = sym (fault_verdict e known)

@@ -64,8 +64,8 @@ pub record IsBlockFlaw (file : List ℕ) (k : ℕ) (flaw : Flaw) : Type 0 where
   pub earlier : (other : Flaw) → turn_of other < turn_of flaw → IsFreeOf file k other
 
 -- block k has no flaw
-abbrev pub IsSound : List ℕ → ℕ → Type 0
-IsSound file k = (flaw : Flaw) → IsFreeOf file k flaw
+abbrev pub HasNoFlaw : List ℕ → ℕ → Type 0
+HasNoFlaw file k = (flaw : Flaw) → IsFreeOf file k flaw
 
 -- why block k is refused, and which block the refusal names
 abbrev pub IsBlockFault : List ℕ → ℕ → Refusal → Type 0
@@ -88,26 +88,32 @@ pub record HasFileSize (file : List ℕ) : Type 0 where
 
 -- no block has a flaw
 abbrev pub IsFlawless : List ℕ → Type 0
-IsFlawless file = (k : ℕ) → k < block_count file → IsSound file k
+IsFlawless file = (k : ℕ) → k < block_count file → HasNoFlaw file k
 
 -- Of all flaws of a file's blocks, the one that is met first.
 pub record IsFirstFlaw (file : List ℕ) (k : ℕ) (flaw : Flaw) : Type 0 where
   pub within : k < block_count file
   pub here : IsBlockFlaw file k flaw
-  pub before : (j : ℕ) → j < k → IsSound file j
+  pub before : (j : ℕ) → j < k → HasNoFlaw file j
 
 -- the last block is an end block
 abbrev pub EndsInEnd : List ℕ → Type 0
 EndsInEnd file = kind_in (block_at file (block_count file - 1)) ≡ 3
 
--- why the scan refuses a file: by its size, else by its first flaw, else for want of an end
+-- All blocks are right, and the last of them is no end block.
+pub record LacksEnd (file : List ℕ) : Type 0 where
+  pub size : HasFileSize file
+  pub blocks : IsFlawless file
+  pub no_end : ¬ EndsInEnd file
+
+-- why the scan refuses a file: for its size, else for its first flaw, else for want of an end
 abbrev pub IsScanFault : List ℕ → Refusal → Type 0
 IsScanFault file FileSize = ¬ HasFileSize file
 IsScanFault file (WrongCheck k) = HasFileSize file × IsFirstFlaw file k check
 IsScanFault file (WrongNumber k) = HasFileSize file × IsFirstFlaw file k number
 IsScanFault file (WrongForm k) = HasFileSize file × IsFirstFlaw file k form
 IsScanFault file (WrongOrder k) = HasFileSize file × IsFirstFlaw file k order
-IsScanFault file (NoEnd n) = HasFileSize file × IsFlawless file × (¬ EndsInEnd file) × (n ≡ block_count file)
+IsScanFault file (NoEnd n) = LacksEnd file × (n ≡ block_count file)
 IsScanFault file other = ⊥
 
 -- A file in which the scan finds no fault.
@@ -118,12 +124,19 @@ pub record PassesScan (file : List ℕ) : Type 0 where
 
 -- ---- the whole check
 
--- the tag that the file holds is that of the header and body read out of it
-abbrev pub HoldsTag : Block → Block → List ℕ → Type 0
-HoldsTag subkey pad file = tag_in file ≡ bytes_of (tag_of subkey pad (header_in file) (body_in file))
+-- A file that passes the scan, with a header above its limit.
+pub record HasLongHeader (file : List ℕ) : Type 0 where
+  pub scan : PassesScan file
+  pub long : header_limit < length (header_in file)
 
--- why the check refuses a file: as the scan does, else by its header's length, else by its tag
+-- A file that passes the scan, with a header within its limit, and holds another tag than that of what is read out of it.
+pub record HoldsOtherTag (subkey pad : Block) (file : List ℕ) : Type 0 where
+  pub scan : PassesScan file
+  pub short : length (header_in file) ≤ header_limit
+  pub other : tag_in file ≢ bytes_of (tag_of subkey pad (header_in file) (body_in file))
+
+-- why the check refuses a file: as the scan does, else for its header's length, else for its tag
 abbrev pub IsFault : Block → Block → List ℕ → Refusal → Type 0
-IsFault subkey pad file HeaderTooLong = PassesScan file × (header_limit < length (header_in file))
-IsFault subkey pad file TagDiffers = PassesScan file × (length (header_in file) ≤ header_limit) × (¬ HoldsTag subkey pad file)
+IsFault subkey pad file HeaderTooLong = HasLongHeader file
+IsFault subkey pad file TagDiffers = HoldsOtherTag subkey pad file
 IsFault subkey pad file other = IsScanFault file other
