@@ -76,25 +76,25 @@ every_flaw P a b c d form = c
 every_flaw P a b c d order = d
 
 module _ (test : Flaw → Bool) where
-  abbrev Passed : Flaw → Type 0
-  Passed flaw = test flaw ≡ true
+  abbrev Held : Flaw → Type 0
+  Held flaw = test flaw ≡ true
 
   -- the first of the four tests that fails
   record FirstFailed (flaw : Flaw) : Type 0 where
     pub failed : test flaw ≡ false
-    pub earlier : (other : Flaw) → turn_of other < turn_of flaw → Passed other
+    pub earlier : (other : Flaw) → turn_of other < turn_of flaw → Held other
 
-  failed_or_none : ((flaw : Flaw) → Passed flaw) ⊎ ((flaw : Flaw) × FirstFailed flaw)
+  failed_or_none : ((flaw : Flaw) → Held flaw) ⊎ ((flaw : Flaw) × FirstFailed flaw)
   failed_or_none =
       elim (cases_Bool (test check)) [
         | inr a ↦ inr (check, record { failed = a; earlier = λ other less. absurd (omega arith) })
         | inl a ↦ elim (cases_Bool (test number)) [
-          | inr b ↦ inr (number, record { failed = b; earlier = turns_below 1 Passed (λ l. a) (λ l. absurd (omega arith)) (λ l. absurd (omega arith)) (λ l. absurd (omega arith)) })
+          | inr b ↦ inr (number, record { failed = b; earlier = turns_below 1 Held (λ l. a) (λ l. absurd (omega arith)) (λ l. absurd (omega arith)) (λ l. absurd (omega arith)) })
           | inl b ↦ elim (cases_Bool (test form)) [
-            | inr c ↦ inr (form, record { failed = c; earlier = turns_below 2 Passed (λ l. a) (λ l. b) (λ l. absurd (omega arith)) (λ l. absurd (omega arith)) })
+            | inr c ↦ inr (form, record { failed = c; earlier = turns_below 2 Held (λ l. a) (λ l. b) (λ l. absurd (omega arith)) (λ l. absurd (omega arith)) })
             | inl c ↦ elim (cases_Bool (test order)) [
-              | inr d ↦ inr (order, record { failed = d; earlier = turns_below 3 Passed (λ l. a) (λ l. b) (λ l. c) (λ l. absurd (omega arith)) })
-              | inl d ↦ inl (every_flaw Passed a b c d)
+              | inr d ↦ inr (order, record { failed = d; earlier = turns_below 3 Held (λ l. a) (λ l. b) (λ l. c) (λ l. absurd (omega arith)) })
+              | inl d ↦ inl (every_flaw Held a b c d)
             ]
           ]
         ]
@@ -105,7 +105,7 @@ module _ (test : Flaw → Bool) where
   fault_by k =
       cond (test check) (cond (test number) (cond (test form) (cond (test order) None (Some (WrongOrder k))) (Some (WrongForm k))) (Some (WrongNumber k))) (Some (WrongCheck k))
 
-  none_failed : (k : ℕ) → ((flaw : Flaw) → Passed flaw) → fault_by k ≡ None
+  none_failed : (k : ℕ) → ((flaw : Flaw) → Held flaw) → fault_by k ≡ None
   none_failed k all = rw (all check, all number, all form, all order)
 
   first_failed : (k : ℕ) (flaw : Flaw) → FirstFailed flaw → fault_by k ≡ Some (refusal_of flaw k)
@@ -134,8 +134,8 @@ module _ (file : List ℕ) (k : ℕ) where
         )
       ]
 
-  pub no_fault : HasNoFlaw file k → fault_at ≡ None
-  no_fault sound = none_failed (is_free file k) k (λ flaw. (free_decides file k flaw).1 (sound flaw))
+  pub block_passes : HasNoFlaw file k → fault_at ≡ None
+  block_passes sound = none_failed (is_free file k) k (λ flaw. (free_decides file k flaw).1 (sound flaw))
 
   pub first_fault : (flaw : Flaw) → IsBlockFlaw file k flaw → fault_at ≡ Some (refusal_of flaw k)
   first_fault flaw f =
@@ -151,26 +151,26 @@ module _ (file : List ℕ) (k : ℕ) where
   named_flaw order f = (refl, f)
 
   -- what the fault of a block tells, and what tells its fault
-  pub fault_is : (e : Refusal) → fault_at ≡ Some e → IsBlockFault file k e
-  fault_is e same =
+  pub block_fault : (e : Refusal) → fault_at ≡ Some e → IsBlockFault file k e
+  block_fault e same =
       elim sound_or_flawed [
-        | inl sound ↦ let none : fault_at ≡ None = no_fault sound in absurd (cc)
+        | inl sound ↦ let none : fault_at ≡ None = block_passes sound in absurd (cc)
         | inr f ↦
             let some : fault_at ≡ Some (refusal_of f.0 k) = first_fault f.0 f.1 in
             let why : refusal_of f.0 k ≡ e = cc in
             subst (IsBlockFault file k) why (named_flaw f.0 f.1)
       ]
 
-  pub sound_is : fault_at ≡ None → HasNoFlaw file k
-  sound_is none =
+  pub block_sound : fault_at ≡ None → HasNoFlaw file k
+  block_sound none =
       elim sound_or_flawed [
         | inl sound ↦ sound
         | inr f ↦ let some : fault_at ≡ Some (refusal_of f.0 k) = first_fault f.0 f.1 in absurd (cc)
       ]
 
-  pub fault_again : (e : Refusal) → IsBlockFault file k e → fault_at ≡ Some e
-  fault_again (WrongCheck named) h = first_fault check h.1 ∙ ap (λ (j : ℕ). Some (WrongCheck j)) (sym h.0)
-  fault_again (WrongNumber named) h = first_fault number h.1 ∙ ap (λ (j : ℕ). Some (WrongNumber j)) (sym h.0)
-  fault_again (WrongForm named) h = first_fault form h.1 ∙ ap (λ (j : ℕ). Some (WrongForm j)) (sym h.0)
-  fault_again (WrongOrder named) h = first_fault order h.1 ∙ ap (λ (j : ℕ). Some (WrongOrder j)) (sym h.0)
-  fault_again other h = absurd h
+  pub block_refuses : (e : Refusal) → IsBlockFault file k e → fault_at ≡ Some e
+  block_refuses (WrongCheck named) h = first_fault check h.1 ∙ ap (λ (j : ℕ). Some (WrongCheck j)) (sym h.0)
+  block_refuses (WrongNumber named) h = first_fault number h.1 ∙ ap (λ (j : ℕ). Some (WrongNumber j)) (sym h.0)
+  block_refuses (WrongForm named) h = first_fault form h.1 ∙ ap (λ (j : ℕ). Some (WrongForm j)) (sym h.0)
+  block_refuses (WrongOrder named) h = first_fault order h.1 ∙ ap (λ (j : ℕ). Some (WrongOrder j)) (sym h.0)
+  block_refuses other h = absurd h

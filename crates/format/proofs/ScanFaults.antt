@@ -1,18 +1,18 @@
 -- The answer of a scan, by the flaws of a file.
-use Rattle.std.proofs.Common.{◌≡◌, ℕ, zero, suc, ◌+◌, ◌-◌, ◌*◌, ◌/◌, ◌<◌, ◌≤◌, Bool, false, cond, eqb, List, length, drop, Ok, Err, Option, Result, sym, refl, ap, ◌∙◌, subst, ◌⊎◌, inl, inr, arith}
+use Rattle.std.proofs.Common.{◌≡◌, ℕ, zero, suc, ◌+◌, ◌-◌, ◌*◌, ◌<◌, ◌≤◌, Bool, true, false, cond, eqb, List, drop, Ok, Err, Option, Result, sym, refl, ap, ◌∙◌, subst, ◌⊎◌, inl, inr, arith}
 use Rattle.std.specs.Bool.{Decides}
 use Rattle.std.proofs.lemmas.List.{drop-drop}
-use Rattle.std.proofs.lemmas.Bool.{cases_Bool, cases_eq, false_from_ne_true}
-use Rattle.std.proofs.lemmas.Bool.Decides.{nat_tests, Decides-eqb, not_from_Decides}
+use Rattle.std.proofs.lemmas.Bool.{cases_Bool, cases_eq, eq-eqb, ne_eqb, false_from_ne_true}
+use Rattle.std.proofs.lemmas.Bool.Decides.{nat_tests, not_from_Decides}
 use Rattle.refusal.specs.Refusals.{number_of}
 use Rattle.refusal.specs.declared.Refusal.{Refusal}
 use Rattle.refusal.specs.declared.Refusal.TheVariants.{TagDiffers, FileSize, WrongCheck, WrongNumber, WrongForm, WrongOrder, NoEnd}
-use Rattle.format.specs.Faults.{Previous, first, previous, rows_of, blocks_of, is_size_good, kind_in, block_at, previous_at, on_fault, scanned, header_in, body_in}
+use Rattle.format.specs.Faults.{Previous, first, previous, rows_of, blocks_of, is_size_good, block_at, previous_at, on_fault, scanned, header_in, body_in}
 use Rattle.format.specs.Verdict.{after, lengths_of, scan_answer}
-use Rattle.format.specs.Flaws.{Flaw, check, number, form, order, HasNoFlaw, block_count, HasFileSize, IsFlawless, IsFirstFlaw, IsScanFault, PassesScan}
+use Rattle.format.specs.Flaws.{Flaw, check, number, form, order, HasNoFlaw, block_count, HasFileSize, IsFlawless, last_kind, IsFirstFlaw, IsScanFault, PassesScan}
 use Rattle.format.specs.declared.lengths.Lengths.{Lengths}
 use Rattle.format.proofs.Results.{not_both, one_reason}
-use Rattle.format.proofs.BlockFlaws.{refusal_of, sound_or_flawed, no_fault, first_fault}
+use Rattle.format.proofs.BlockFlaws.{refusal_of, sound_or_flawed, block_passes, first_fault}
 
 -- ---- block by block
 
@@ -22,7 +22,7 @@ scan_step : (k m : ℕ) (file : List ℕ) → HasNoFlaw file k
 scan_step k m file sound =
     let further : 512 * k + 512 ≡ 512 * suc k = omega arith in
     let rest : drop 512 (drop (512 * k) file) ≡ drop (512 * suc k) file = drop-drop 512 (512 * k) file ∙ ap (λ (j : ℕ). drop j file) further in
-    λ i. on_fault (no_fault file k sound i) (scanned (suc k) (previous (block_at file k)) (rows_of m (rest i)))
+    λ i. on_fault (block_passes file k sound i) (scanned (suc k) (previous (block_at file k)) (rows_of m (rest i)))
 
 -- k blocks with no flaw
 pub scan_from : (k m n : ℕ) (file : List ℕ) → k + m ≡ n → ((j : ℕ) → j < k → HasNoFlaw file j)
@@ -72,52 +72,50 @@ size_decides file = (
   λ size. grind (arith, nat_tests, size.whole, size.some, size.few),
 )
 
--- the last block's kind, as the scan of a file with some blocks knows it
-pub last_kind : (file : List ℕ) → HasFileSize file → (previous_at file (block_count file)).kind ≡ kind_in (block_at file (block_count file - 1))
-last_kind file size =
+-- the last block stands before the end of the file
+pub kind_before_end : (file : List ℕ) → HasFileSize file → (previous_at file (block_count file)).kind ≡ last_kind file
+kind_before_end file size =
     let some : 1 ≤ block_count file = size.some in
     let last : block_count file ≡ suc (block_count file - 1) = omega arith in
     ap (λ (n : ℕ). (previous_at file n).kind) last
 
 module _ (file : List ℕ) where
-  abbrev told : Lengths
+  abbrev pub told : Lengths
   told = lengths_of (header_in file) (body_in file)
 
-  -- what the scan answers once it has gone through the blocks
-  abbrev ended : Previous → Result Lengths Refusal
-  ended last = cond (eqb last.kind 3) (Ok told) (Err (NoEnd (length file / 512)))
+  -- the answer by whether the last block is an end block, and by what the blocks say
+  abbrev ended : Bool → Result Lengths Refusal
+  ended t = cond t (Ok told) (Err (NoEnd (block_count file)))
 
-  sized : HasFileSize file → scan_answer file ≡ after (scanned 0 first (blocks_of file)) ended
-  sized size = ap (λ (t : Bool). cond t (after (scanned 0 first (blocks_of file)) ended) (Err FileSize)) ((size_decides file).1 size)
+  abbrev gone_through : Result Previous Refusal → Result Lengths Refusal
+  gone_through r = after r (λ last. ended (eqb last.kind 3))
 
-  flawless : HasFileSize file → IsFlawless file → scan_answer file ≡ cond (eqb (kind_in (block_at file (block_count file - 1))) 3) (Ok told) (Err (NoEnd (length file / 512)))
-  flawless size sound =
-      sized size
-      ∙ ap (λ (r : Result Previous Refusal). after r ended) (scan_flawless file sound)
-      ∙ ap (λ (kind : ℕ). cond (eqb kind 3) (Ok told) (Err (NoEnd (length file / 512)))) (last_kind file size)
+  of_size : (t : Bool) → is_size_good file ≡ t → scan_answer file ≡ cond t (gone_through (scanned 0 first (blocks_of file))) (Err FileSize)
+  of_size t same = ap (λ (u : Bool). cond u (gone_through (scanned 0 first (blocks_of file))) (Err FileSize)) same
+
+  flawless : HasFileSize file → IsFlawless file → (t : Bool) → eqb (last_kind file) 3 ≡ t → scan_answer file ≡ ended t
+  flawless size sound t same =
+      of_size true ((size_decides file).1 size)
+      ∙ ap gone_through (scan_flawless file sound)
+      ∙ ap (λ (kind : ℕ). ended (eqb kind 3)) (kind_before_end file size)
+      ∙ ap ended same
 
   flawed : (k : ℕ) (flaw : Flaw) → HasFileSize file → IsFirstFlaw file k flaw → scan_answer file ≡ Err (refusal_of flaw k)
-  flawed k flaw size f = sized size ∙ ap (λ (r : Result Previous Refusal). after r ended) (scan_flawed file k flaw f)
+  flawed k flaw size f = of_size true ((size_decides file).1 size) ∙ ap gone_through (scan_flawed file k flaw f)
 
   -- the scan of a file without fault
   pub scan_passes : PassesScan file → scan_answer file ≡ Ok told
-  scan_passes pass =
-      flawless pass.size pass.blocks
-      ∙ ap (λ (t : Bool). cond t (Ok told) (Err (NoEnd (length file / 512)))) ((Decides-eqb _ 3).1 pass.end)
+  scan_passes pass = flawless pass.size pass.blocks true (eq-eqb (last_kind file) 3 pass.end)
 
   -- and of one with this fault
   pub scan_refuses : (e : Refusal) → IsScanFault file e → scan_answer file ≡ Err e
-  scan_refuses FileSize h =
-      ap (λ (t : Bool). cond t (after (scanned 0 first (blocks_of file)) ended) (Err FileSize))
-      (false_from_ne_true (is_size_good file) (λ good. h ((size_decides file).0 good)))
+  scan_refuses FileSize h = of_size false (false_from_ne_true (is_size_good file) (λ good. h ((size_decides file).0 good)))
   scan_refuses (WrongCheck k) h = flawed k check h.0 h.1
   scan_refuses (WrongNumber k) h = flawed k number h.0 h.1
   scan_refuses (WrongForm k) h = flawed k form h.0 h.1
   scan_refuses (WrongOrder k) h = flawed k order h.0 h.1
   scan_refuses (NoEnd n) h =
-      flawless h.0.size h.0.blocks
-      ∙ ap (λ (t : Bool). cond t (Ok told) (Err (NoEnd (length file / 512))))
-      (false_from_ne_true (eqb (kind_in (block_at file (block_count file - 1))) 3) (λ e. h.0.no_end ((Decides-eqb _ 3).0 e)))
+      flawless h.0.size h.0.blocks false (ne_eqb (last_kind file) 3 h.0.no_end)
       ∙ ap (λ (j : ℕ). Err (NoEnd j)) (sym h.1)
   scan_refuses other h = absurd h
 
@@ -136,7 +134,7 @@ module _ (file : List ℕ) where
             let size : HasFileSize file = (size_decides file).0 good in
             elim (flaw_below (block_count file) file (omega arith)) [
               | inr f ↦ inr (refusal_of f.1 f.0, named_first f.0 f.1 size f.2)
-              | inl sound ↦ elim (cases_eq (kind_in (block_at file (block_count file - 1))) 3) [
+              | inl sound ↦ elim (cases_eq (last_kind file) 3) [
                 | inl end ↦ inl (record { size = size; blocks = sound; end = end })
                 | inr other ↦ inr (NoEnd (block_count file), (record { size = size; blocks = sound; no_end = other }, refl))
               ]

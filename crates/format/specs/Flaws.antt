@@ -1,4 +1,4 @@
--- Why a file is refused: the first flaw of the first block that has one, or what the file lacks as a whole.
+-- Why a file is refused: for its size, its first flaw, want of an end, its header's length or its tag.
 use Rattle.std.specs.Prelude.{◌≡◌, ◌≢◌, ℕ, ◌-◌, ◌/◌, ◌%◌, ◌<◌, ◌≤◌, List, All, length, take}
 use Rattle.field.specs.Bytes.{bytes_of}
 use Rattle.field.specs.declared.kinds.Block.{Block}
@@ -34,14 +34,14 @@ pub record MayFollow (p : Previous) (kind : ℕ) : Type 0 where
   -- nor after one of its own kind, unless that one is full
   pub full : p.kind ≡ kind → 502 ≤ p.used
 
--- what can be wrong with a block
+-- what can be wrong with a block, in the order in which it is looked for
 pub data Flaw : Type 0 where
   check : Flaw
   number : Flaw
   form : Flaw
   order : Flaw
 
--- the turn in which it is looked for
+-- how many flaws are looked for before it
 abbrev pub turn_of : Flaw → ℕ
 turn_of check = 0
 turn_of number = 1
@@ -96,9 +96,12 @@ pub record IsFirstFlaw (file : List ℕ) (k : ℕ) (flaw : Flaw) : Type 0 where
   pub here : IsBlockFlaw file k flaw
   pub before : (j : ℕ) → j < k → HasNoFlaw file j
 
+abbrev pub last_kind : List ℕ → ℕ
+last_kind file = kind_in (block_at file (block_count file - 1))
+
 -- the last block is an end block
 abbrev pub EndsInEnd : List ℕ → Type 0
-EndsInEnd file = kind_in (block_at file (block_count file - 1)) ≡ 3
+EndsInEnd file = last_kind file ≡ 3
 
 -- All blocks are right, and the last of them is no end block.
 pub record LacksEnd (file : List ℕ) : Type 0 where
@@ -129,7 +132,7 @@ pub record HasLongHeader (file : List ℕ) : Type 0 where
   pub scan : PassesScan file
   pub long : header_limit < length (header_in file)
 
--- A file that passes the scan, with a header within its limit, and holds another tag than that of what is read out of it.
+-- A file that passes the scan, with a header within its limit; its tag is not that of what is read out of it.
 pub record HoldsOtherTag (subkey pad : Block) (file : List ℕ) : Type 0 where
   pub scan : PassesScan file
   pub short : length (header_in file) ≤ header_limit

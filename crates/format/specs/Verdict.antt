@@ -17,18 +17,21 @@ after (Err e) f = Err e
 abbrev pub lengths_of : List ℕ → List ℕ → Lengths
 lengths_of header body = record { header = length header; body = length body }
 
--- size, then block by block, then the end: what can be said of a file's blocks, and how long its parts are
+-- size, then block by block, then the end: how long the parts of a file are that no block speaks against
 abbrev pub scan_answer : List ℕ → Result Lengths Refusal
 scan_answer file =
     if is_size_good file
     then after (scanned 0 first (blocks_of file)) (λ last.
-    if last.kind == 3 then Ok (lengths_of (header_in file) (body_in file)) else Err (NoEnd (length file / 512)))
+    if last.kind == 3
+    then Ok (lengths_of (header_in file) (body_in file))
+    else Err (NoEnd (length file / 512)))
     else Err FileSize
 
 -- all that can be said of a file without its key: the scan, and then the header's limit
 abbrev pub first_pass : List ℕ → Result Lengths Refusal
 first_pass file =
-    after (scan_answer file) (λ lens. if nat_le lens.header header_limit then Ok lens else Err HeaderTooLong)
+    after (scan_answer file) (λ lens.
+    if nat_le lens.header header_limit then Ok lens else Err HeaderTooLong)
 
 -- the tag in the file against the tag of what is read out of it
 abbrev pub tag_verdict : Block → Block → List ℕ → Result Lengths Refusal
