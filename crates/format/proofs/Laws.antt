@@ -1,5 +1,7 @@
 -- The check accepts sealed files and no others.
-use Rattle.std.proofs.Common.{◌≡◌, ℕ, ◌+◌, ◌*◌, ◌/◌, ◌%◌, ◌≤◌, true, cond, eqb, leb, List, map, length, Ok, Err, Result, sym, refl, ap, ◌∙◌, subst, ap₂, mod-eq_of_lt, arith, lit<}
+use Rattle.std.proofs.Common.{◌≡◌, ℕ, ◌+◌, ◌*◌, ◌/◌, ◌≤◌, true, eqb, List, map, length, Ok, sym, ap, ◌∙◌, subst, ap₂, mod-eq_of_lt, arith, lit<}
+use Rattle.std.specs.Prelude.{is_ok}
+use Rattle.std.proofs.lemmas.Bool.{eqb-true}
 use Rattle.std.proofs.lemmas.Bool.Decides.{nat_tests}
 use Rattle.field.specs.Bytes.{bytes_of}
 use Rattle.field.specs.Digits.{numeral, digits}
@@ -8,14 +10,16 @@ use Rattle.field.proofs.Digits.{length_digits, numeral_digits, digits_numeral}
 use Rattle.message.specs.Limits.{header_limit}
 use Rattle.message.specs.Blocks.{AreBytes}
 use Rattle.message.specs.Hash.{tag_of}
-use Rattle.refusal.specs.declared.Refusal.{Refusal}
-use Rattle.refusal.specs.declared.Refusal.TheVariants.{HeaderTooLong, FileSize, NoEnd}
+use Rattle.refusal.specs.declared.Refusal.TheVariants.{TagDiffers}
 use Rattle.format.specs.Layout.{Content, contents, laid, sealed, blocks_for}
-use Rattle.format.specs.Faults.{Previous, first, rows_of, blocks_of, is_size_good, scanned, data_of, header_in, body_in, tag_in}
-use Rattle.format.specs.Verdict.{after, tag_verdict, verdict, Exact, Reopens}
+use Rattle.format.specs.Faults.{first, rows_of, blocks_of, is_size_good, scanned, data_of, header_in, body_in, tag_in}
+use Rattle.format.specs.Verdict.{lengths_of, first_pass, tag_verdict, verdict, IsSealOf, Exact, Reopens}
+use Rattle.format.specs.Flaws.{HasFileSize}
 use Rattle.format.specs.declared.lengths.Lengths.{Lengths}
 use Rattle.format.proofs.BlockFields.{content_of}
 use Rattle.format.proofs.Sequences.{Follows, part_of, Whole, in_order, contents_follow, header_part, body_part, tag_part, length_contents}
+use Rattle.format.proofs.Results.{came, test_passed, value_of, if_value}
+use Rattle.format.proofs.FirstPass.{Passed, passed}
 use Rattle.format.proofs.Scans.{scanned_laid, block_rows, length_laid_all, rows_laid, rows_contents, rows_scanned, data_part, read_small}
 
 -- ---- what is read out of a sealed file
@@ -64,20 +68,9 @@ module _ (subkey pad : Block) (header body : List ℕ) where
 
 -- ---- a sealed file is accepted
 
-abbrev ok : ℕ → ℕ → Result Lengths Refusal
-ok header body = Ok record { header = header; body = body }
-
--- the tests before the tag is looked at, and an answer past them: after a scan without fault, and in all
-abbrev pub ending : List ℕ → Result Lengths Refusal → Previous → Result Lengths Refusal
-ending file answer last =
-    cond (eqb last.kind 3) (cond (leb (length (header_in file)) header_limit) answer (Err HeaderTooLong)) (Err (NoEnd (length file / 512)))
-
-abbrev pub tested : List ℕ → Result Lengths Refusal → Result Lengths Refusal
-tested file answer = cond (is_size_good file) (after (scanned 0 first (blocks_of file)) (ending file answer)) (Err FileSize)
-
 module _ (subkey pad : Block) (header body : List ℕ) where
   -- the tag read out of it is the tag of the parts read out of it
-  tag_sealed : tag_verdict subkey pad (sealed subkey pad header body) ≡ ok (length header) (length body)
+  tag_sealed : tag_verdict subkey pad (sealed subkey pad header body) ≡ Ok (lengths_of header body)
   tag_sealed =
       let file : List ℕ = sealed subkey pad header body in
       let t : Block = tag_of subkey pad header body in
@@ -87,7 +80,7 @@ module _ (subkey pad : Block) (header body : List ℕ) where
       ∙ mod-eq_of_lt t.fits
       ∙ sym (ap₂ (λ (h b : List ℕ). (tag_of subkey pad h b).bits) (sealed_header subkey pad header body) (sealed_body subkey pad header body)) in
       grind (arith, nat_tests, right)
-      ∙ ap₂ (λ (h b : List ℕ). ok (length h) (length b)) (sealed_header subkey pad header body) (sealed_body subkey pad header body)
+      ∙ ap₂ (λ (h b : List ℕ). Ok (lengths_of h b)) (sealed_header subkey pad header body) (sealed_body subkey pad header body)
 
   module _ (short : length header ≤ 65535) (count : blocks_for (length header) (length body) ≤ 65536) where
     size_sealed : is_size_good (sealed subkey pad header body) ≡ true
@@ -97,7 +90,7 @@ module _ (subkey pad : Block) (header body : List ℕ) where
         grind (arith, nat_tests)
 
     -- the check accepts it, and tells how long its parts are
-    pub sealed_accepted : verdict subkey pad (sealed subkey pad header body) ≡ Ok record { header = length header; body = length body }
+    pub sealed_accepted : verdict subkey pad (sealed subkey pad header body) ≡ Ok (lengths_of header body)
     sealed_accepted =
         let file : List ℕ = sealed subkey pad header body in
         let cs : List Content = carried subkey pad header body in
@@ -109,49 +102,22 @@ module _ (subkey pad : Block) (header body : List ℕ) where
 
 -- ---- an accepted file is sealed
 
--- a step before another ended well
-came : {T U : Type 0} (r : Result T Refusal) (f : T → Result U Refusal) (x : U) → after r f ≡ Ok x → (z : T) × (r ≡ Ok z) × (f z ≡ Ok x)
-came (Ok z) f x e = (z, refl, e)
-came (Err y) f x e = let z : ◌≡◌ {A = ℕ} 0 1 = cc in absurd (omega arith)
-
--- what the tests before the tag found of a file that they let through
-pub record Passed (file : List ℕ) : Type 0 where
-  pub size : is_size_good file ≡ true
-  pub last : Previous
-  pub scan : scanned 0 first (blocks_of file) ≡ Ok last
-  pub end : last.kind ≡ 3
-  pub short : length (header_in file) ≤ 65535
-
-pub passed_tests : (file : List ℕ) (answer : Result Lengths Refusal) (lens : Lengths) → tested file answer ≡ Ok lens → Passed file × (answer ≡ Ok lens)
-passed_tests file answer lens e =
-    let two = came (scanned 0 first (blocks_of file)) (ending file answer) lens (grind (arith, nat_tests, e)) in (
-      record {
-        size = grind (arith, nat_tests, e);
-        last = two.0;
-        scan = two.1;
-        end = grind (arith, nat_tests, two.2);
-        short = grind (arith, nat_tests, two.2);
-      },
-      grind (arith, nat_tests, two.2),
-    )
-
 -- what the check found of a file that it accepts
 record Accepted (subkey pad : Block) (file : List ℕ) (lens : Lengths) : Type 0 where
-  pub pass : Passed file
+  pub through : Passed file
   pub tagged : numeral 256 (tag_in file) ≡ (tag_of subkey pad (header_in file) (body_in file)).bits
-  pub header : lens.header ≡ length (header_in file)
-  pub body : lens.body ≡ length (body_in file)
+  pub read : lens ≡ lengths_of (header_in file) (body_in file)
 
 accepted_parts : (subkey pad : Block) (file : List ℕ) (lens : Lengths) → verdict subkey pad file ≡ Ok lens → Accepted subkey pad file lens
 accepted_parts subkey pad file lens e =
-    let through = passed_tests file (tag_verdict subkey pad file) lens e in
-    let told : ok (length (header_in file)) (length (body_in file)) ≡ Ok lens = grind (arith, nat_tests, through.1) in
-    let same : lens ≡ record { header = length (header_in file); body = length (body_in file) } = cc in
+    let told : Lengths = lengths_of (header_in file) (body_in file) in
+    let tag : Block = tag_of subkey pad (header_in file) (body_in file) in
+    let two = came (first_pass file) (λ _. tag_verdict subkey pad file) lens e in
+    let same = test_passed (eqb (numeral 256 (tag_in file)) tag.bits) (Ok told) TagDiffers lens two.2 in
     record {
-      pass = through.0;
-      tagged = grind (arith, nat_tests, through.1);
-      header = ap (λ (l : Lengths). l.header) same;
-      body = ap (λ (l : Lengths). l.body) same;
+      through = (passed file two.0 two.1).0;
+      tagged = eqb-true (numeral 256 (tag_in file)) tag.bits same.0;
+      read = cc;
     }
 
 -- a file of bytes that the check accepts is the sealed file of the parts read out of it
@@ -161,8 +127,8 @@ unfolding blocks_of sealed
 accepted_sealed subkey pad file lens small e =
     let a : Accepted subkey pad file lens = accepted_parts subkey pad file lens e in
     let m : ℕ = length file / 512 in
-    let whole : length file % 512 ≡ 0 = grind (arith, nat_tests, a.pass.size) in
-    let found = scanned_laid m 0 first a.pass.last file (omega arith) small a.pass.scan a.pass.end in
+    let size : HasFileSize file = a.through.pass.size in
+    let found = scanned_laid m 0 first a.through.last file (omega arith) small a.through.scan a.through.end in
     let cs : List Content = map content_of (rows_of m file) in
     let ordered : Whole cs = in_order first cs found.1 (omega arith) in
     let part : (kind : ℕ) → part_of kind cs ≡ data_of kind (rows_of m file) = λ kind. sym (data_part kind (rows_of m file)) in
@@ -181,12 +147,29 @@ reopens subkey pad header body short count = record {
   body_again = sealed_body subkey pad header body;
 }
 
-pub exact : (subkey pad : Block) (file : List ℕ) → AreBytes file → Exact subkey pad file (verdict subkey pad file)
-exact subkey pad file small = record {
-  sound = λ lens e.
-      let a = accepted_parts subkey pad file lens e in
-      ((λ i. record { header = a.header i; body = a.body i }), accepted_sealed subkey pad file lens small e);
-  complete = λ header body short count same.
-      let r = reopens subkey pad header body short count in
-      (ap (verdict subkey pad) same ∙ r.accepted, ap header_in same ∙ r.header_again, ap body_in same ∙ r.body_again);
-}
+module _ (subkey pad : Block) (file : List ℕ) (small : AreBytes file) where
+  -- an accepted file is what the writer makes
+  pub accepted_seal : (lens : Lengths) → verdict subkey pad file ≡ Ok lens → IsSealOf subkey pad (header_in file) (body_in file) file
+  accepted_seal lens e =
+      let through : Passed file = (accepted_parts subkey pad file lens e).through in
+      let made : file ≡ sealed subkey pad (header_in file) (body_in file) = accepted_sealed subkey pad file lens small e in
+      let size : HasFileSize file = through.pass.size in
+      let long = ap length made ∙ length_sealed subkey pad (header_in file) (body_in file) in
+      record { short = through.short; few = omega (arith, long); made = made }
+
+  -- what the writer makes is accepted
+  pub seal_accepted : (header body : List ℕ) → IsSealOf subkey pad header body file → verdict subkey pad file ≡ Ok (lengths_of header body)
+  seal_accepted header body seal = ap (verdict subkey pad) seal.made ∙ sealed_accepted subkey pad header body seal.short seal.few
+
+  pub exact : Exact subkey pad file (verdict subkey pad file)
+  exact = record {
+    exactly = (
+      λ ok. let lens = value_of (verdict subkey pad file) ok in accepted_seal lens.0 lens.1,
+      λ seal. ap is_ok (seal_accepted (header_in file) (body_in file) seal),
+    );
+    lengths = if_value (verdict subkey pad file) _ (λ lens e. (accepted_parts subkey pad file lens e).read);
+    only = λ header body seal. (
+      ap header_in seal.made ∙ sealed_header subkey pad header body,
+      ap body_in seal.made ∙ sealed_body subkey pad header body,
+    );
+  }

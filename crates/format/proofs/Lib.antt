@@ -4,4 +4,9 @@ pub mod BlockFields
 pub mod Pieces
 pub mod Sequences
 pub mod Scans
+pub mod Results
+pub mod BlockFlaws
+pub mod ScanFaults
+pub mod FirstPass
 pub mod Laws
+pub mod VerdictFaults

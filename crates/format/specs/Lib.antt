@@ -2,3 +2,4 @@ pub mod Kinds
 pub mod Layout
 pub mod Faults
 pub mod Verdict
+pub mod Flaws

@@ -1,5 +1,5 @@
 -- What a file check answers.
-use Rattle.std.specs.Prelude.{◌≡◌, ℕ, ◌/◌, ◌≤◌, cond, List, length, Ok, Err, Result, ◌==◌, nat_le}
+use Rattle.std.specs.Prelude.{◌≡◌, ℕ, ◌/◌, ◌≤◌, ◌↔◌, if◌then◌else◌, List, length, Ok, Err, Result, IsOk, IfOk, ◌==◌, nat_le}
 use Rattle.field.specs.Digits.{numeral}
 use Rattle.field.specs.declared.kinds.Block.{Block}
 use Rattle.message.specs.Limits.{header_limit}
@@ -17,36 +17,52 @@ after (Err e) f = Err e
 abbrev pub lengths_of : List ℕ → List ℕ → Lengths
 lengths_of header body = record { header = length header; body = length body }
 
--- size, then block by block, then the end: what can be said of a file's blocks, and how long its parts are
+-- size, then block by block, then the end: how long the parts of a file are that no block speaks against
 abbrev pub scan_answer : List ℕ → Result Lengths Refusal
 scan_answer file =
-    cond (is_size_good file)
-    (after (scanned 0 first (blocks_of file)) (λ last.
-    cond (last.kind == 3) (Ok (lengths_of (header_in file) (body_in file))) (Err (NoEnd (length file / 512)))))
-    (Err FileSize)
+    if is_size_good file
+    then after (scanned 0 first (blocks_of file)) (λ last.
+    if last.kind == 3
+    then Ok (lengths_of (header_in file) (body_in file))
+    else Err (NoEnd (length file / 512)))
+    else Err FileSize
+
+-- all that can be said of a file without its key: the scan, and then the header's limit
+abbrev pub first_pass : List ℕ → Result Lengths Refusal
+first_pass file =
+    after (scan_answer file) (λ lens.
+    if nat_le lens.header header_limit then Ok lens else Err HeaderTooLong)
 
 -- the tag in the file against the tag of what is read out of it
 abbrev pub tag_verdict : Block → Block → List ℕ → Result Lengths Refusal
 tag_verdict subkey pad file =
-    cond (numeral 256 (tag_in file) == (tag_of subkey pad (header_in file) (body_in file)).bits)
-    (Ok record { header = length (header_in file); body = length (body_in file) })
-    (Err TagDiffers)
+    if numeral 256 (tag_in file) == (tag_of subkey pad (header_in file) (body_in file)).bits
+    then Ok (lengths_of (header_in file) (body_in file))
+    else Err TagDiffers
 
--- size, then block by block, then the end, the header's limit, and the tag
+-- the first pass, and then the tag
 abbrev pub verdict : Block → Block → List ℕ → Result Lengths Refusal
-verdict subkey pad file =
-    cond (is_size_good file)
-    (after (scanned 0 first (blocks_of file)) (λ last.
-    cond (last.kind == 3)
-    (cond (nat_le (length (header_in file)) header_limit) (tag_verdict subkey pad file) (Err HeaderTooLong))
-    (Err (NoEnd (length file / 512)))))
-    (Err FileSize)
+verdict subkey pad file = after (first_pass file) (λ _. tag_verdict subkey pad file)
 
--- An answer that accepts exactly the files that seal what is read out of them, and answers the lengths of that.
+-- The writer makes this file from this header and body, under this subkey and pad.
+pub record IsSealOf (subkey pad : Block) (header body file : List ℕ) : Type 0 where
+  -- the header is within its limit
+  pub short : length header ≤ header_limit
+  -- no file has more blocks
+  pub few : blocks_for (length header) (length body) ≤ 65536
+  -- byte for byte
+  pub made : file ≡ sealed subkey pad header body
+
+-- An answer that accepts exactly the files that the writer makes.
 pub record Exact (subkey pad : Block) (file : List ℕ) (answer : Result Lengths Refusal) : Type 0 where
-  pub sound : (lens : Lengths) → answer ≡ Ok lens → (lens ≡ lengths_of (header_in file) (body_in file)) × (file ≡ sealed subkey pad (header_in file) (body_in file))
-  pub complete : (header body : List ℕ) → length header ≤ header_limit → blocks_for (length header) (length body) ≤ 65536
-      → file ≡ sealed subkey pad header body → (answer ≡ Ok (lengths_of header body)) × (header_in file ≡ header) × (body_in file ≡ body)
+  -- accepted exactly where the writer makes the file from the header and body read out of it
+  pub exactly : IsOk answer ↔ IsSealOf subkey pad (header_in file) (body_in file) file
+  -- and answered with the lengths of these two
+  pub lengths : IfOk answer (λ lens. lens ≡ lengths_of (header_in file) (body_in file))
+  -- whatever header and body the writer made the file from, they are what is read out of it
+  pub only : (header body : List ℕ)
+      → IsSealOf subkey pad header body file
+      → (header_in file ≡ header) × (body_in file ≡ body)
 
 -- What a header and a body are sealed into is accepted, and both are read out of it again.
 pub record Reopens (subkey pad : Block) (header body : List ℕ) : Type 0 where

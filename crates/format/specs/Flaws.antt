@@ -1,0 +1,145 @@
+-- Why a file is refused: for its size, its first flaw, want of an end, its header's length or its tag.
+use Rattle.std.specs.Prelude.{◌≡◌, ◌≢◌, ℕ, ◌-◌, ◌/◌, ◌%◌, ◌<◌, ◌≤◌, List, All, length, take}
+use Rattle.field.specs.Bytes.{bytes_of}
+use Rattle.field.specs.declared.kinds.Block.{Block}
+use Rattle.message.specs.Limits.{header_limit}
+use Rattle.message.specs.Hash.{tag_of}
+use Rattle.refusal.specs.declared.Refusal.{Refusal}
+use Rattle.refusal.specs.declared.Refusal.TheVariants.{HeaderTooLong, TagDiffers, FileSize, WrongCheck, WrongNumber, WrongForm, WrongOrder, NoEnd}
+use Rattle.format.specs.Layout.{check_of}
+use Rattle.format.specs.Faults.{Previous, number_in, kind_in, reserve_in, used_in, fill_in, check_in, block_at, previous_at, header_in, body_in, tag_in}
+
+-- ---- a block
+
+-- A block of right form.
+pub record IsFormed (b : List ℕ) : Type 0 where
+  -- its kind is 1 (header), 2 (body) or 3 (end)
+  pub least_kind : 1 ≤ kind_in b
+  pub most_kind : kind_in b ≤ 3
+  -- its reserve is zero
+  pub reserve : reserve_in b ≡ 0
+  -- an end block holds the 16 bytes of the tag
+  pub end_used : kind_in b ≡ 3 → used_in b ≡ 16
+  -- and another block 1 to 502 bytes of a part
+  pub part_used : kind_in b ≢ 3 → (1 ≤ used_in b) × (used_in b ≤ 502)
+  -- from the data to the check, every byte is zero
+  pub fill : All (λ x. x ≡ 0) (fill_in b)
+
+-- A block of this kind may stand after p, the block before it.
+pub record MayFollow (p : Previous) (kind : ℕ) : Type 0 where
+  -- no block stands after an end block
+  pub before_end : p.kind ≢ 3
+  -- nor after a block of a later kind
+  pub rising : p.kind ≤ kind
+  -- nor after one of its own kind, unless that one is full
+  pub full : p.kind ≡ kind → 502 ≤ p.used
+
+-- what can be wrong with a block, in the order in which it is looked for
+pub data Flaw : Type 0 where
+  check : Flaw
+  number : Flaw
+  form : Flaw
+  order : Flaw
+
+-- how many flaws are looked for before it
+abbrev pub turn_of : Flaw → ℕ
+turn_of check = 0
+turn_of number = 1
+turn_of form = 2
+turn_of order = 3
+
+-- block k of a file has not this flaw
+abbrev pub IsFreeOf : List ℕ → ℕ → Flaw → Type 0
+IsFreeOf file k check = check_in (block_at file k) ≡ check_of (take 508 (block_at file k))
+IsFreeOf file k number = number_in (block_at file k) ≡ k
+IsFreeOf file k form = IsFormed (block_at file k)
+IsFreeOf file k order = MayFollow (previous_at file k) (kind_in (block_at file k))
+
+abbrev pub HasFlaw : List ℕ → ℕ → Flaw → Type 0
+HasFlaw file k flaw = ¬ IsFreeOf file k flaw
+
+-- Of the flaws of block k, the one that is met first.
+pub record IsBlockFlaw (file : List ℕ) (k : ℕ) (flaw : Flaw) : Type 0 where
+  pub there : HasFlaw file k flaw
+  pub earlier : (other : Flaw) → turn_of other < turn_of flaw → IsFreeOf file k other
+
+-- block k has no flaw
+abbrev pub HasNoFlaw : List ℕ → ℕ → Type 0
+HasNoFlaw file k = (flaw : Flaw) → IsFreeOf file k flaw
+
+-- why block k is refused, and which block the refusal names
+abbrev pub IsBlockFault : List ℕ → ℕ → Refusal → Type 0
+IsBlockFault file k (WrongCheck named) = (named ≡ k) × IsBlockFlaw file k check
+IsBlockFault file k (WrongNumber named) = (named ≡ k) × IsBlockFlaw file k number
+IsBlockFault file k (WrongForm named) = (named ≡ k) × IsBlockFlaw file k form
+IsBlockFault file k (WrongOrder named) = (named ≡ k) × IsBlockFlaw file k order
+IsBlockFault file k other = ⊥
+
+-- ---- the blocks of a file
+
+abbrev pub block_count : List ℕ → ℕ
+block_count file = length file / 512
+
+-- Whole blocks, 1 to 65,536 of them.
+pub record HasFileSize (file : List ℕ) : Type 0 where
+  pub whole : length file % 512 ≡ 0
+  pub some : 1 ≤ block_count file
+  pub few : block_count file ≤ 65536
+
+-- no block has a flaw
+abbrev pub IsFlawless : List ℕ → Type 0
+IsFlawless file = (k : ℕ) → k < block_count file → HasNoFlaw file k
+
+-- Of all flaws of a file's blocks, the one that is met first.
+pub record IsFirstFlaw (file : List ℕ) (k : ℕ) (flaw : Flaw) : Type 0 where
+  pub within : k < block_count file
+  pub here : IsBlockFlaw file k flaw
+  pub before : (j : ℕ) → j < k → HasNoFlaw file j
+
+abbrev pub last_kind : List ℕ → ℕ
+last_kind file = kind_in (block_at file (block_count file - 1))
+
+-- the last block is an end block
+abbrev pub EndsInEnd : List ℕ → Type 0
+EndsInEnd file = last_kind file ≡ 3
+
+-- All blocks are right, and the last of them is no end block.
+pub record LacksEnd (file : List ℕ) : Type 0 where
+  pub size : HasFileSize file
+  pub blocks : IsFlawless file
+  pub no_end : ¬ EndsInEnd file
+
+-- why the scan refuses a file: for its size, else for its first flaw, else for want of an end
+abbrev pub IsScanFault : List ℕ → Refusal → Type 0
+IsScanFault file FileSize = ¬ HasFileSize file
+IsScanFault file (WrongCheck k) = HasFileSize file × IsFirstFlaw file k check
+IsScanFault file (WrongNumber k) = HasFileSize file × IsFirstFlaw file k number
+IsScanFault file (WrongForm k) = HasFileSize file × IsFirstFlaw file k form
+IsScanFault file (WrongOrder k) = HasFileSize file × IsFirstFlaw file k order
+IsScanFault file (NoEnd n) = LacksEnd file × (n ≡ block_count file)
+IsScanFault file other = ⊥
+
+-- A file in which the scan finds no fault.
+pub record PassesScan (file : List ℕ) : Type 0 where
+  pub size : HasFileSize file
+  pub blocks : IsFlawless file
+  pub end : EndsInEnd file
+
+-- ---- the whole check
+
+-- A file that passes the scan, with a header above its limit.
+pub record HasLongHeader (file : List ℕ) : Type 0 where
+  pub scan : PassesScan file
+  pub long : header_limit < length (header_in file)
+
+-- A file that passes the scan, with a header within its limit; its tag is not that of what is read out of it.
+pub record HoldsOtherTag (subkey pad : Block) (file : List ℕ) : Type 0 where
+  pub scan : PassesScan file
+  pub short : length (header_in file) ≤ header_limit
+  pub other : tag_in file ≢ bytes_of (tag_of subkey pad (header_in file) (body_in file))
+
+-- why the check refuses a file: as the scan does, else for its header's length, else for its tag
+abbrev pub IsFault : Block → Block → List ℕ → Refusal → Type 0
+IsFault subkey pad file HeaderTooLong = HasLongHeader file
+IsFault subkey pad file TagDiffers = HoldsOtherTag subkey pad file
+IsFault subkey pad file other = IsScanFault file other
