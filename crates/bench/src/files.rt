@@ -1,9 +1,9 @@
-// Sealed files beside the hash of the same bytes, over a body of 1 MiB.
+// The check of a block, and sealed files beside the hash of the same bytes, over a body of 1 MiB.
 use crate::engines::key;
 use crate::timing::{time, time_tries};
 use engine::Step;
 use field::{Block, Element};
-use format::BLOCK_BYTES;
+use format::{BLOCK_BYTES, CHECK_AT, block_check};
 use message::Message;
 use sealed::{check_file, write_file};
 use tag::tag_message;
@@ -51,6 +51,24 @@ pub(crate) fn files(rt: &HostRuntime, count: u32) -> anyhow::Result<()> {
     println!(rt;
         "{} written, {} accepted, and the hashes end at {}",
         writing.left, checking.left, hashing.left
+    )?;
+    Ok(())
+}
+
+// Checks of a block, each of bytes that begin with the check before, so that none can be left out.
+pub(crate) fn checks(rt: &HostRuntime, count: u32) -> anyhow::Result<()> {
+    let mut bytes = [7u8; CHECK_AT];
+    let timed = time(rt, count, 0u32, |check| {
+        let [a, b, c, d] = check.to_be_bytes();
+        bytes[0] = a;
+        bytes[1] = b;
+        bytes[2] = c;
+        bytes[3] = d;
+        block_check(&bytes)
+    })?;
+    println!(rt;
+        "proved {} ns a check, ending at {}",
+        timed.each, timed.left
     )?;
     Ok(())
 }

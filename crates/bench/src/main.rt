@@ -9,14 +9,14 @@ mod timing;
 use anyhow::anyhow;
 use engines::{absorbs, engines, key};
 use field::{Block, Element};
-use files::files;
+use files::{checks, files};
 use jobs::jobs;
 use polynomial::{make_polynomial, try_polynomial};
 use std::env;
 use timing::{time, time_tries};
 
-const USAGE: &str = "usage: bench product|trial|maker|absorb|engines|jobs|files COUNT
-prints nanoseconds a block product, a trial, a making or an absorb, over COUNT of them,
+const USAGE: &str = "usage: bench product|trial|maker|absorb|check|engines|jobs|files COUNT
+prints nanoseconds a block product, a trial, a making, an absorb or a check of a block, over COUNT of them,
 or a table of the engines' times a block, of a job's or of a sealed file's, each row over COUNT hashes";
 
 // A chain of products, each from the one before, so that none can be left out.
@@ -76,6 +76,7 @@ fn run(rt: &HostRuntime) -> anyhow::Result<()> {
         "engines" => engines(rt, count),
         "jobs" => jobs(rt, count),
         "files" => files(rt, count),
+        "check" => checks(rt, count),
         _ => Err(anyhow!("no such loop")),
     }
 }

@@ -2,7 +2,7 @@
 use Rattle.std.proofs.Common.{◌≡◌, ℕ, suc, ◌+◌, ◌<◌, List, [], ◌∷◌, ◌++◌, fold, length, get_or, take, sym, refl, ap, ◌∙◌, ap₂, append_assoc, append-nil, add-one, length-append}
 use Rattle.std.proofs.lemmas.List.{take_more}
 use Rattle.field.specs.Ring.{CommutativeRing}
-use Rattle.field.specs.Evaluation.{power, eval, absorbed}
+use Rattle.field.specs.Evaluation.{power, eval, eval_from, absorbed}
 use Rattle.field.specs.declared.element.Element.{Ghosts}
 
 module _ {R : Type 0} (m : Ghosts R) (laws : CommutativeRing m.zero m.one m.sum m.product) where
@@ -59,9 +59,18 @@ module _ {R : Type 0} (m : Ghosts R) (laws : CommutativeRing m.zero m.one m.sum 
   fold_absorbed r v [] = refl
   fold_absorbed r v (p ∷ ps) = fold_absorbed r (m.product (m.sum v p) r) ps
 
-  -- items taken in one by one from zero on make one evaluation
-  pub fold_eval : (r : R) (ps : List R) → fold (λ w p. m.product (m.sum w p) r) m.zero ps ≡ eval m r ps
-  fold_eval r ps = fold_absorbed r m.zero ps ∙ absorbed_eval r [] ps
+  -- what items taken in one by one from a value on come to, by powers
+  pub absorbed_from : (r v : R) (ps : List R) → absorbed m r v ps ≡ eval_from m r v ps
+  absorbed_from r v [] = sym (laws.sum_zero (m.product v m.one) ∙ laws.product_one v)
+  absorbed_from r v (p ∷ ps) =
+      let w : R = power m r (length ps) in
+      let moved : (x : R) → m.product (m.product x r) w ≡ m.product x (m.product r w) = λ x. laws.product_assoc x r w in
+      absorbed_from r (m.product (m.sum v p) r) ps
+      ∙ ap (λ x. m.sum x (eval m r ps)) (moved (m.sum v p) ∙ sum_product v p (m.product r w))
+      ∙ laws.sum_assoc (m.product v (m.product r w)) (m.product p (m.product r w)) (eval m r ps)
+
+  pub fold_from : (r v : R) (ps : List R) → fold (λ w p. m.product (m.sum w p) r) v ps ≡ eval_from m r v ps
+  fold_from r v ps = fold_absorbed r v ps ∙ absorbed_from r v ps
 
   pub product_zero : (x : R) → m.product x m.zero ≡ m.zero
   product_zero x =
@@ -75,3 +84,8 @@ module _ {R : Type 0} (m : Ghosts R) (laws : CommutativeRing m.zero m.one m.sum 
 
   pub zero_product : (x : R) → m.product m.zero x ≡ m.zero
   zero_product x = laws.product_comm m.zero x ∙ product_zero x
+
+  -- from zero on, a row comes to its evaluation
+  pub eval_from_zero : (r : R) (ps : List R) → eval_from m r m.zero ps ≡ eval m r ps
+  eval_from_zero r ps =
+      ap (λ x. m.sum x (eval m r ps)) (zero_product (power m r (length ps))) ∙ zero_sum (eval m r ps)

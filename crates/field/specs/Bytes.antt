@@ -1,11 +1,16 @@
--- A block as 16 bytes, the first byte highest.
+-- A block as 16 bytes and a word as two, the first byte highest.
 use Rattle.std.specs.Prelude.{ℕ, List}
 use Rattle.field.specs.Digits.{numeral, digits}
-use Rattle.field.specs.Kinds.{block}
+use Rattle.field.specs.Kinds.{block, word}
 use Rattle.field.specs.declared.kinds.Block.{Block}
+use Rattle.field.specs.declared.kinds.Word.{Word}
 
 abbrev pub block_of : List ℕ → Block
 block_of bytes = block (numeral 256 bytes)
 
 abbrev pub bytes_of : Block → List ℕ
 bytes_of b = digits 256 16 b.bits
+
+-- the word that two bytes write
+abbrev pub word_of : List ℕ → Word
+word_of bytes = word (numeral 256 bytes)

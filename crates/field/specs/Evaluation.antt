@@ -12,6 +12,10 @@ abbrev pub eval : {R : Type 0} → Ghosts R → R → List R → R
 eval m r [] = m.zero
 eval m r (p ∷ ps) = m.sum (m.product p (power m r (suc (length ps)))) (eval m r ps)
 
+-- v·r^n + P1·r^n + P2·r^(n-1) + .. + Pn·r: the same from a value v on
+abbrev pub eval_from : {R : Type 0} → Ghosts R → R → R → List R → R
+eval_from m r v ps = m.sum (m.product v (power m r (length ps))) (eval m r ps)
+
 -- items taken in one by one from a value v on: v becomes (v + P)·r
 abbrev pub absorbed : {R : Type 0} → Ghosts R → R → R → List R → R
 absorbed m r v [] = v

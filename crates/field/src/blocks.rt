@@ -7,6 +7,7 @@ ghost use Rattle.field.specs.Instances.{block_lawful, block_ring_laws};
 
 use crate::binary::{Polynomial, masked, product};
 use crate::element::Element;
+use crate::encodes::Encodes;
 use crate::kinds::Block;
 use std::fmt;
 
@@ -88,6 +89,14 @@ impl Element for Block {
 
     fn times(self, other: Block) -> Block {
         Block::new(product::<Block>(self.bits, other.bits))
+    }
+}
+
+impl Encodes<Block> for [u8; 16] {
+    ghost element = { block_of };
+
+    fn element(&self) -> Block {
+        Block::from_bytes(*self)
     }
 }
 

@@ -23,6 +23,13 @@ pub trait Element: Sized {
     fn times(self, other: Self) -> Self
         ensures { result ≡ product self other };
 
+    /// (self + item)·key, a step of Horner's rule.
+    fn absorb(self, item: Self, key: Self) -> Self
+        ensures { result ≡ product (sum self item) key }
+    {
+        self.plus(item).times(key)
+    }
+
     // Each kind proves these laws.
     ghost ring: { CommutativeRing zero one sum product };
 }

@@ -4,11 +4,13 @@
 mod binary;
 mod blocks;
 mod element;
+mod encodes;
 mod evaluator;
 mod kinds;
 mod nibbles;
 mod words;
 
 pub use element::Element;
+pub use encodes::Encodes;
 pub use evaluator::evaluate;
 pub use kinds::{Block, Nibble, Word};

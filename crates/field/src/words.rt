@@ -1,14 +1,40 @@
 // Words: in and out, sum and product.
-ghost use Rattle.std.specs.Prelude.{◌≡◌, Some};
+ghost use Rattle.std.specs.Prelude.{◌≡◌, ◌-◌, ◌*◌, ◌%◌, ◌^◌, ◌<◌, Some};
+ghost use Rattle.field.specs.Bytes.{word_of};
 ghost use Rattle.field.specs.Kinds.{word, word_ring};
 ghost use Rattle.field.specs.Texts.{word_text};
 ghost use Rattle.field.specs.Instances.{word_ring_laws};
 
 use crate::element::Element;
+use crate::encodes::Encodes;
 use crate::kinds::Word;
 use std::fmt;
 
+// 2^31 - 1, and so the mask of the 31 lowest bits too.
 const MODULUS: u32 = 0x7fff_ffff;
+
+// The remainder of a number below twice the modulus, which comes off at most once.
+fn subtract_once(number: u32) -> u32
+    requires { number < 2 * (2 ^ 31 - 1) }
+    ensures { result ≡ number % (2 ^ 31 - 1) }
+{
+    if number < MODULUS {
+        number
+    } else {
+        number - MODULUS
+    }
+}
+
+// The remainder with no division. 2^31 leaves 1, so the bits from the 31st on count as a number of their own, which is added to
+// the 31 lowest.
+fn remainder(number: u64) -> u32
+    requires { number < 2 * (2 ^ 31 - 1) * 2 ^ 31 }
+    ensures { result ≡ number % (2 ^ 31 - 1) }
+{
+    let high = subtract_once((number >> 31) as u32);
+    let low = (number & u64::from(MODULUS)) as u32;
+    subtract_once(low + high)
+}
 
 impl Word {
     // A number above 2^31 - 2 enters by its remainder.
@@ -16,7 +42,7 @@ impl Word {
         ensures { result ≡ word value }
     {
         Word {
-            value: value % MODULUS,
+            value: remainder(u64::from(value)),
         }
     }
 
@@ -55,11 +81,30 @@ impl Element for Word {
     }
 
     fn plus(self, other: Word) -> Word {
-        Word::new(self.value + other.value)
+        Word {
+            value: subtract_once(self.value + other.value),
+        }
     }
 
     fn times(self, other: Word) -> Word {
-        let wide = u64::from(self.value) * u64::from(other.value);
-        Word::new((wide % u64::from(MODULUS)) as u32)
+        Word {
+            value: remainder(u64::from(self.value) * u64::from(other.value)),
+        }
+    }
+
+    // The sum goes into the product as it is, so that a remainder is taken once.
+    fn absorb(self, item: Word, key: Word) -> Word {
+        let sum = self.value + item.value;
+        Word {
+            value: remainder(u64::from(sum) * u64::from(key.value)),
+        }
+    }
+}
+
+impl Encodes<Word> for [u8; 2] {
+    ghost element = { word_of };
+
+    fn element(&self) -> Word {
+        Word::new(u32::from(u16::from_be_bytes(*self)))
     }
 }

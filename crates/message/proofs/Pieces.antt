@@ -1,31 +1,34 @@
--- The blocks of a part, as its chunks yield them.
-use Rattle.std.proofs.Common.{◌≡◌, ℕ, ◌<◌, min, List, ◌∷◌, ◌++◌, length, take, sym, ap, ◌∙◌, subst, arith}
-use denote.Ref.{Bor}
-use Rattle.std.specs.Slice.Iter.{chunks_rest, chunks_size, chunks_steps}
-use Rattle.std.proofs.lemmas.Iterator.{YieldsList}
-use Rattle.std.proofs.lemmas.Iterator.Splits.{YieldsList-from_shown_while}
-use Rattle.std.proofs.lemmas.List.{take_all}
+-- The blocks of a part: its whole pieces of 16 bytes, and the one that is left.
+use Rattle.std.proofs.Common.{◌≡◌, ℕ, zero, suc, ◌+◌, ◌-◌, ◌*◌, ◌/◌, ◌<◌, ◌≤◌, List, [], ◌∷◌, ◌++◌, length, map, take, drop, replicate, sym, ap, ◌∙◌, ap₂, append-nil, zero-add, suc-add, arith, length-drop, length-take-le, drop-drop}
+use Rattle.std.specs.Simd.{first_chunks}
 use Rattle.field.specs.Bytes.{block_of}
 use Rattle.field.specs.declared.kinds.Block.{Block}
-use Rattle.message.specs.Blocks.{filled, blocks}
-use Rattle.message.proofs.Cutting.{blocks_more, blocks_none}
+use Rattle.message.specs.Blocks.{blocks_taken, filled, cut, blocks}
 
-abbrev pub piece_block : Bor (List ℕ) → Block
-piece_block piece = block_of (filled (take 16 piece.now))
+-- n whole blocks, and k blocks of what follows
+cut_whole : (n k : ℕ) (xs : List ℕ) → 16 * n ≤ length xs → cut (n + k) xs ≡ map block_of (first_chunks 16 n xs) ++ cut k (drop (n * 16) xs)
+cut_whole zero k xs within = ap (λ (m : ℕ). cut m xs) (zero-add k)
+cut_whole (suc n) k xs within =
+    let full : length (take 16 xs) ≡ 16 = length-take-le 16 xs (omega arith) in
+    let left : length (drop 16 xs) ≡ length xs - 16 = length-drop 16 xs in
+    let further : 16 + n * 16 ≡ suc n * 16 = omega arith in
+    let first : filled (take 16 xs) ≡ take 16 xs =
+    ap (λ (j : ℕ). take 16 xs ++ replicate (16 - j) 0) full ∙ append-nil (take 16 xs) in
+    ap (λ (m : ℕ). cut m xs) (suc-add n k)
+    ∙ ap₂ (λ (b : Block) (bs : List Block). b ∷ bs) (ap block_of first)
+    (cut_whole n k (drop 16 xs) (omega arith)
+    ∙ ap (λ (ys : List ℕ). map block_of (first_chunks 16 n (drop 16 xs)) ++ cut k ys)
+    (drop-drop (n * 16) 16 xs ∙ ap (λ (j : ℕ). drop j xs) further))
 
--- a piece's block is the first of those that are left
-first : (piece more rest : List ℕ) → rest ≡ piece ++ more → length piece ≡ min 16 (length rest) → 0 < length rest
-    → blocks rest ≡ block_of (filled (take 16 piece)) ∷ blocks more
-first piece more rest joins size some =
-    let whole : length piece ≡ min 16 (length (piece ++ more)) = size ∙ ap (λ (xs : List ℕ). min 16 (length xs)) joins in
-    ap blocks joins
-    ∙ blocks_more piece more whole (subst (λ (xs : List ℕ). 0 < length xs) joins some)
-    ∙ ap (λ (xs : List ℕ). block_of (filled xs) ∷ blocks more) (sym (take_all 16 piece (omega (arith, size))))
+pub blocks_whole : (part : List ℕ) → blocks part ≡ map block_of (first_chunks 16 (length part / 16) part) ++ blocks (drop (length part / 16 * 16) part)
+unfolding blocks
+blocks_whole part =
+    let n : ℕ = length part / 16 in
+    let left = length-drop (n * 16) part in
+    let count : blocks_taken (length part) ≡ n + blocks_taken (length (drop (n * 16) part)) = omega (arith, left) in
+    ap (λ (m : ℕ). cut m part) count ∙ cut_whole n (blocks_taken (length (drop (n * 16) part))) part (omega arith)
 
-pub YieldsList-from_chunks : {s : _} (part : List ℕ) → chunks_rest s ≡ part → chunks_size s ≡ 16 → YieldsList chunks_steps piece_block s (blocks part)
-YieldsList-from_chunks {s} part rest size =
-    subst (YieldsList chunks_steps piece_block s) (ap blocks rest)
-    (YieldsList-from_shown_while chunks_steps piece_block (λ t. blocks (chunks_rest t)) (λ t. chunks_size t ≡ 16)
-    (λ t u h none. ap length (blocks_none (chunks_rest t) none.1.0))
-    (λ t piece u h some. (some.0 ∙ h, first piece.now (chunks_rest u) (chunks_rest t) some.1.0 (some.1.1 ∙ ap (λ (n : ℕ). min n (length (chunks_rest t))) h) some.1.2))
-    s size)
+-- fewer than 16 bytes are one block
+pub blocks_short : (rest : List ℕ) → 0 < length rest → length rest < 16 → blocks rest ≡ block_of (filled (take 16 rest)) ∷ []
+unfolding blocks
+blocks_short rest some short = let one : blocks_taken (length rest) ≡ 1 = omega arith in ap (λ (m : ℕ). cut m rest) one

@@ -1,5 +1,5 @@
 -- The standard's hash and tag are ours.
-use Rattle.std.proofs.Common.{◌≡◌, ℕ, zero, suc, ◌+◌, ◌-◌, ◌*◌, ◌/◌, ◌<◌, ◌≤◌, List, [], ◌∷◌, ◌++◌, length, take, drop, replicate, sym, refl, ap, ◌∙◌, subst, ap₂, append_assoc, append-nil, mul-div_cancel, arith, lit<, length-append, length-drop, take-append-drop, get_or-drop}
+use Rattle.std.proofs.Common.{◌≡◌, ℕ, zero, suc, ◌+◌, ◌-◌, ◌*◌, ◌/◌, ◌<◌, ◌≤◌, List, [], ◌∷◌, ◌++◌, length, take, drop, replicate, sym, refl, ap, ◌∙◌, subst, ap₂, append_assoc, append-nil, mul-div_cancel, arith, lit<, length-append, length-drop, take-append-drop, get_or-drop, length-take}
 use native.Mathlib.Decide.{dec_le}
 use native.Mathlib.Nat.{div-div-eq-div-mul}
 use lib.ListN.{length-replicate}
@@ -93,10 +93,18 @@ small_digits zero v k = omega arith
 small_digits (suc n) v zero = omega arith
 small_digits (suc n) v (suc k) = small_digits n v k
 
-filled_string : (xs : List ℕ) → AreBytes xs → length xs ≤ 16 → block_string (block_of (filled xs)) ≡ string xs ++ zeros (8 * (16 - length xs))
-filled_string xs small short =
+-- a shorter piece, filled up to 16 bytes
+filled_same : (xs : List ℕ) → AreBytes xs → length xs ≤ 16 → block_string (block_of (filled xs)) ≡ string (filled xs)
+filled_same xs small short =
     let whole : length (filled xs) ≡ 16 = length-append xs (replicate (16 - length xs) 0) ∙ ap (λ (n : ℕ). length xs + n) (length-replicate (16 - length xs) 0) ∙ omega arith in
     block_string_same (filled xs) (small_append xs (replicate (16 - length xs) 0) small (small_zeros (16 - length xs))) whole
+
+pub first_same : (xs : List ℕ) → AreBytes xs → block_string (block_of (filled (take 16 xs))) ≡ string (filled (take 16 xs))
+first_same xs small = filled_same (take 16 xs) (small_take 16 xs small) (rw length-take (omega arith))
+
+filled_string : (xs : List ℕ) → AreBytes xs → length xs ≤ 16 → block_string (block_of (filled xs)) ≡ string xs ++ zeros (8 * (16 - length xs))
+filled_string xs small short =
+    filled_same xs small short
     ∙ string_append xs (replicate (16 - length xs) 0)
     ∙ ap (λ (s : List ℕ). string xs ++ s) (string_zeros (16 - length xs))
 

@@ -4,29 +4,41 @@ ghost use Rattle.field.specs.Bytes.{block_of};
 ghost use Rattle.field.specs.Evaluation.{absorbed};
 ghost use Rattle.field.specs.Kinds.{block_ring};
 ghost use Rattle.message.specs.Blocks.{filled, blocks, blocks_taken, block_of_counts};
+ghost use Rattle.message.specs.Standard.{block_string, string};
 
-use field::{Block, Element};
+use field::{Block, Element, evaluate};
 
-// The block of the first 16 bytes; a shorter piece is filled with zeros.
-pub fn block_of(piece: &[u8]) -> Block
-    ensures { result ≡ block_of (filled (take 16 piece.now)) }
+// The first 16 bytes; a shorter piece is filled with zeros.
+fn fill(piece: &[u8]) -> [u8; 16]
+    ensures { result ≡ filled (take 16 piece.now) }
 {
     if let Some(full) = piece.first_chunk::<16>() {
-        return Block::from_bytes(*full);
+        return *full;
     }
     let mut bytes = [0u8; 16];
     bytes[..piece.len()].copy_from_slice(piece);
-    Block::from_bytes(bytes)
+    bytes
+}
+
+/// The block of the first 16 bytes, the first byte highest; a shorter piece is filled with zeros. As a string of bits it is those
+/// bytes, one after the other.
+pub fn block_of(piece: &[u8]) -> Block
+    ensures value { result ≡ block_of (filled (take 16 piece.now)) }
+    ensures standard { block_string result ≡ string (filled (take 16 piece.now)) }
+{
+    Block::from_bytes(fill(piece))
 }
 
 // The value after the blocks of one part, each taken in by (value + block)·subkey: the recursion itself, to which engines are held.
 pub(crate) fn absorb_part(subkey: Block, start: Block, part: &[u8]) -> Block
     ensures { result ≡ absorbed block_ring subkey start (blocks part.now) }
 {
-    part.chunks(16).fold(
-        start,
-        |value, piece| value.plus(block_of(piece)).times(subkey),
-    )
+    let (full, rest) = part.as_chunks::<16>();
+    let value = evaluate(subkey, start, full);
+    if rest.is_empty() {
+        return value;
+    }
+    value.absorb(block_of(rest), subkey)
 }
 
 // How many blocks of 16 bytes a part takes.

@@ -38,7 +38,7 @@ impl Message<'_> {
         let after_header = absorb_part(subkey, Block::zero(), self.header);
         let after_body = absorb_part(subkey, after_header, self.body);
         let lengths = block_of_byte_counts(self.header.len() as u64, self.body.len() as u64);
-        let hash = after_body.plus(lengths).times(subkey);
+        let hash = after_body.absorb(lengths, subkey);
         Ok(Digest {
             hash,
             tag: hash.plus(pad),

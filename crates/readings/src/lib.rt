@@ -38,28 +38,28 @@ fn nibble_value() -> Nibble
     ensures { result ≡ nibble 0b0110 }
 {
     let one = Nibble::new(0b0001);
-    evaluate(Nibble::new(0b0010), &[one, one])
+    evaluate(Nibble::new(0b0010), Nibble::zero(), &[one, one])
 }
 
 // 1 at the key.
 fn word_one() -> Word
     ensures { result ≡ word 16807 }
 {
-    evaluate(Word::new(KEY), &[Word::new(1)])
+    evaluate(Word::new(KEY), Word::zero(), &[Word::new(1)])
 }
 
 // 1, 0 at the key.
 fn word_two() -> Word
     ensures { result ≡ word 282475249 }
 {
-    evaluate(Word::new(KEY), &[Word::new(1), Word::new(0)])
+    evaluate(Word::new(KEY), Word::zero(), &[Word::new(1), Word::new(0)])
 }
 
 // 00..00 01 at the key 40 00..00.
 fn block_value() -> Block
     ensures { result ≡ first 0xE1 }
 {
-    evaluate(Block::new(0x40 << 120), &[Block::new(1)])
+    evaluate(Block::new(0x40 << 120), Block::zero(), &[Block::new(1)])
 }
 
 // The hash at the subkey 80 00..00, which is one.

@@ -1,6 +1,8 @@
-use Rattle.std.proofs.Common.{[], ◌∷◌, ◌∙◌, ap₂}
-use Rattle.field.specs.Evaluation.{eval}
-use Rattle.field.specs.Kinds.{nibble_ring}
+use Rattle.std.proofs.Common.{[], ◌∷◌, ap, ◌∙◌, ap₂}
+use Rattle.field.proofs.Horner.{eval_from_zero}
+use Rattle.field.specs.Evaluation.{eval_from}
+use Rattle.field.specs.Instances.{nibble_ring_laws}
+use Rattle.field.specs.Kinds.{nibble, nibble_ring}
 use Rattle.field.specs.declared.kinds.Nibble.{Nibble}
 use Rattle.readings.proofs.Rows.{table}
 use Rattle.readings.proofs.nibble_value.Goals as goal
@@ -8,5 +10,7 @@ use Rattle.readings.proofs.nibble_value.Goals as goal
 pub returns : goal.returns
 returns c =
     c.evaluate.ensures
-    ∙ ap₂ (λ (key item : Nibble). eval nibble_ring key (item ∷ (item ∷ []))) c.new.ensures c.new-one.ensures
+    ∙ ap (λ (start : Nibble). eval_from nibble_ring c.new.result start (c.new-one.result ∷ (c.new-one.result ∷ []))) c.zero.ensures
+    ∙ ap₂ (λ (key item : Nibble). eval_from nibble_ring key nibble_ring.zero (item ∷ (item ∷ []))) c.new.ensures c.new-one.ensures
+    ∙ eval_from_zero nibble_ring nibble_ring_laws (nibble 0b0010) (nibble 0b0001 ∷ (nibble 0b0001 ∷ []))
     ∙ table.nibble_value_row

@@ -38,19 +38,19 @@ returns c =
     c.absorb_part-after_body.ensures ∙ ap (λ (v : Block). absorbed block_ring subkey v (blocks body)) first in
     let lengths : c.block_of_byte_counts-lengths.result ≡ block_of_lengths header body =
     c.block_of_byte_counts-lengths.ensures ∙ sym (lengths_counts header body) in
-    let hashed : c.times-hash.result ≡ hash_of subkey header body =
-    c.times-hash.ensures
-    ∙ ap (λ (v : Block). block_ring.product v subkey) (c.plus.ensures ∙ ap₂ block_ring.sum second lengths)
+    let hashed : c.absorb-hash.result ≡ hash_of subkey header body =
+    c.absorb-hash.ensures
+    ∙ ap₂ (λ (v q : Block). block_ring.product (block_ring.sum v q) subkey) second lengths
     ∙ in_order subkey (blocks header) (blocks body) (block_of_lengths header body) in
-    let tagged : c.plus-2.result ≡ tag_of subkey pad header body =
-    c.plus-2.ensures ∙ ap (λ (v : Block). block_ring.sum v pad) hashed in
-    let made : ◌≡◌ {A = Digest} (record { hash = c.times-hash.result; tag = c.plus-2.result; blocks = c.count_blocks.result }) (digest_of subkey pad header body) =
+    let tagged : c.plus.result ≡ tag_of subkey pad header body =
+    c.plus.ensures ∙ ap (λ (v : Block). block_ring.sum v pad) hashed in
+    let made : ◌≡◌ {A = Digest} (record { hash = c.absorb-hash.result; tag = c.plus.result; blocks = c.count_blocks.result }) (digest_of subkey pad header body) =
     λ i. record { hash = hashed i; tag = tagged i; blocks = c.count_blocks.ensures i } in
     let bytes = c.in_ok-check_lengths.ensures.bytes in
     record {
       value = ap taken made ∙ after_lengths (Ok (digest_of subkey pad header body)) header body tt (Ok tt) (sym c.in_ok-check_lengths.was ∙ c.check_lengths.ensures.answer);
       standard =
-          subst (λ (t : Block). MeetsStandard subkey pad header body c.times-hash.result t) (sym tagged)
+          subst (λ (t : Block). MeetsStandard subkey pad header body c.absorb-hash.result t) (sym tagged)
           (subst (λ (h : Block). MeetsStandard subkey pad header body h (tag_of subkey pad header body)) (sym hashed)
           (meets_standard subkey pad header body bytes.0 bytes.1));
     }
