@@ -37,9 +37,9 @@ fn try_flight(rt: &HostRuntime, flight: &Flight) -> Result<Accepted<Block>, Stop
     println!(rt;
         "{} {proposal}: ok, weight {}",
         Point::Polynomial,
-        trial.weight
+        trial.weight()
     )?;
-    Ok(trial.polynomial)
+    Ok(trial.polynomial())
 }
 
 // A job with the body cut in two, and a switch asked for between. The pad stays apart from the engine, as in a job.

@@ -3,7 +3,7 @@ use Rattle.std.specs.List.{range_with_len}
 use Rattle.std.proofs.lemmas.List.FromFn.{length-map-range_with_len, map-range_with_len_more}
 use Rattle.field.specs.Evaluation.{power}
 use Rattle.polynomial.proofs.Fill.{fill_more}
-use Rattle.polynomial.proofs.trial.fill_powers.Goals as goal
+use Rattle.polynomial.proofs.proposal.fill_powers.Goals as goal
 
 pub loop-power-preserved : goal.loop-power-preserved
 loop-power-preserved g c =

@@ -1,7 +1,7 @@
 use Rattle.std.proofs.Common.{◌≡◌, ◌++◌, map, drop}
 use Rattle.std.specs.List.{range_with_len}
 use Rattle.field.specs.Evaluation.{power}
-use Rattle.polynomial.proofs.trial.fill_powers.Given as goal
+use Rattle.polynomial.proofs.proposal.fill_powers.Given as goal
 
 abbrev pub invariant-loop-power : goal.invariant-loop-power
 invariant-loop-power g l =

@@ -3,7 +3,7 @@ use Rattle.std.specs.List.{enumerate_from}
 use Rattle.std.proofs.lemmas.Iterator.{YieldsList-from_slice}
 use Rattle.std.proofs.lemmas.Iterator.Consumers.{YieldsList-at, YieldsList-from_enumerate, YieldsList-from_filter, fold_from_yields_List}
 use Rattle.polynomial.proofs.Values.{stored_value}
-use Rattle.polynomial.proofs.trial.sum_powers.Goals as goal
+use Rattle.polynomial.proofs.proposal.sum_powers.Goals as goal
 
 pub returns : goal.returns
 returns g c = λ key powers.
