@@ -1,7 +1,8 @@
 // The engines side by side, over rows of blocks of several lengths.
 use crate::timing::{Timed, time};
 use anyhow::anyhow;
-use engine::{Division, Engine, Step};
+use division::Division;
+use engine::{Engine, Step};
 use field::{Block, Element};
 use polynomial::Accepted;
 

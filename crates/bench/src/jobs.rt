@@ -1,7 +1,8 @@
 // Jobs beside the engines' own absorbs, over a body of 1,536 blocks.
 use crate::engines::{accepted, key};
 use crate::timing::{Timed, time};
-use engine::{Division, Engine, Step};
+use division::Division;
+use engine::{Engine, Step};
 use field::{Block, Element};
 use job::{BodyJob, Closed, HeaderJob};
 use message::block_of_byte_counts;

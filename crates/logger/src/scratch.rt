@@ -16,7 +16,7 @@ pub(crate) fn try_in(subkey: Block, proposal: Block, scratch: &mut [Block]) -> R
 {
     let trial = try_polynomial(subkey, proposal, scratch)?;
     // At most 128.
-    Ok(trial.weight as u8)
+    Ok(trial.weight() as u8)
 }
 
 // Every bit that stands in some block of the scratch.

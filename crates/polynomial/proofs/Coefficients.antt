@@ -62,11 +62,12 @@ at_most_one true = omega arith
 at_most_one false = omega arith
 
 pub ones_at_most : (n : ℕ) (f : ℕ → Bool) → ones_below n f ≤ n
+unfolding ones_below
 ones_at_most zero f = omega arith
 ones_at_most (suc n) f = let last : cond (f n) 1 0 ≤ 1 = at_most_one (f n) in omega (arith, ones_at_most n f, last)
 
 ones_low : (n v : ℕ) → ones_below n (λ s. nat_eq (v / 2 ^ s % 2) 1) ≡ ones (v % 2 ^ n)
-unfolding ones
+unfolding ones_below ones
 ones_low zero v = ap ones (sym (mod-one v))
 ones_low (suc n) v =
     ap₂ (λ (x y : ℕ). x + y) (ones_low n v) (one_digit (v / 2 ^ n % 2) (mod-lt (v / 2 ^ n) two))

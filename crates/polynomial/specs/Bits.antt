@@ -11,6 +11,6 @@ abbrev pub flipped : ℕ → (ℕ → Bool) → ℕ → ℕ → Bool
 flipped width bits k j = cond (j == k) (cond (nat_lt k width) (not (bits j)) (bits j)) (bits j)
 
 -- how many of the first n coefficients are one
-abbrev pub ones_below : ℕ → (ℕ → Bool) → ℕ
+unfoldable pub ones_below : ℕ → (ℕ → Bool) → ℕ
 ones_below zero bits = 0
 ones_below (suc n) bits = ones_below n bits + cond (bits n) 1 0

@@ -7,15 +7,18 @@ use Rattle.field.specs.Kinds.{block_kind, nibble_kind}
 use Rattle.polynomial.specs.Bits.{bit_in, ones_below}
 
 pub same_ones : (n : ℕ) (f g : ℕ → Bool) → ((k : ℕ) → k < n → f k ≡ g k) → ones_below n f ≡ ones_below n g
+unfolding ones_below
 same_ones zero f g same = refl
 same_ones (suc n) f g same =
     ap₂ (λ (x : ℕ) (b : Bool). x + cond b 1 0) (same_ones n f g (λ k h. same k (omega arith))) (same n (omega arith))
 
 first_one : (n : ℕ) (f : ℕ → Bool) → ones_below (suc n) f ≡ ones_below n (λ k. f (suc k)) + cond (f zero) 1 0
+unfolding ones_below
 first_one zero f = refl
 first_one (suc n) f = omega (arith, first_one n f)
 
 pub reversed_ones : (n : ℕ) (f : ℕ → Bool) → ones_below n (λ k. f (n - suc k)) ≡ ones_below n f
+unfolding ones_below
 reversed_ones zero f = refl
 reversed_ones (suc n) f =
     let inner : (k : ℕ) → k < n → f (suc n - suc k) ≡ f (suc (n - suc k)) = λ k h. let e : suc n - suc k ≡ suc (n - suc k) = omega arith in ap f e in

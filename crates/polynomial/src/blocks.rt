@@ -39,7 +39,11 @@ impl Binary for Block {
         self == Block::zero()
     }
 
+    // Counted over the two halves of the coefficients, by each half's own count.
     fn weight(self) -> u32 {
-        self.bits().count_ones()
+        let bits = self.bits();
+        let high = (bits >> 64) as u64;
+        let low = (bits & u128::from(u64::MAX)) as u64;
+        high.count_ones() + low.count_ones()
     }
 }

@@ -6,10 +6,12 @@ mod binary;
 mod blocks;
 mod maker;
 mod nibbles;
+mod proposal;
 mod scratch;
 mod trial;
 
 pub use accepted::Accepted;
 pub use binary::Binary;
 pub use maker::make_polynomial;
-pub use trial::{Trial, try_polynomial};
+pub use proposal::try_polynomial;
+pub use trial::Trial;

@@ -1,81 +1,50 @@
-// The trial of a proposal: does it annihilate the subkey?
-ghost use Rattle.std.specs.Prelude.{◌≡◌, map, length};
-ghost use Rattle.std.specs.List.{range_with_len};
-ghost use Rattle.field.specs.Evaluation.{power};
-ghost use Rattle.polynomial.specs.Outcomes.{PolynomialTried, scratch_after};
-ghost use Rattle.polynomial.specs.Polynomials.{value_at, stored};
+// What a trial that accepts answers: its type says that the weight is the polynomial's own.
+ghost use Rattle.std.specs.Prelude.{◌≡◌, ⊤};
+ghost use Rattle.polynomial.specs.Bits.{ones_below};
 
 use crate::accepted::Accepted;
 use crate::binary::Binary;
-use crate::scratch::Scratch;
-use field::Element;
-use refusal::Refusal;
+use std::alloc::AllocError;
 
-// Writes the powers of the key from the zeroth on, and answers the next.
-fn fill_powers<E: Element + Copy>(powers: &mut [E], key: E) -> E
-    ensures value { result ≡ power E.Element key (length powers.old) }
-    ensures powers { powers.new ≡ map (power E.Element key) (range_with_len 0 (length powers.old)) }
-{
-    let mut next = E::one();
-    // No fold and no `fill_with`: each step writes a power and hands the next one on, which a closure would hide.
-    for power in powers.iter_mut() {
-        *power = next;
-        next = key.times(next);
-    }
-    next
-}
-
-// The sum of the powers where the proposal has a one: its value at the key, but for the highest term.
-fn sum_powers<K: Binary>(powers: &[K], proposal: K) -> K
-    ensures { (key : K) → powers.now ≡ map (power K.Element key) (range_with_len 0 (length powers.now)) → result ≡ value_at K.Element key (stored K.Element (length powers.now) (K.Binary.bits proposal)) }
-{
-    powers
-        .iter()
-        .enumerate()
-        .filter(|(k, _)| proposal.bit(*k))
-        .fold(K::zero(), |sum, (_, power)| sum.plus(*power))
-}
-
-impl<K: Binary> Scratch<'_, K> {
-    // The proposed polynomial's value at the key, by powers that are written to the scratch.
-    fn value_at(&mut self, key: K, proposal: K) -> K
-        ensures same_reference { self.new.elements.ghost_name ≡ self.old.elements.ghost_name }
-        ensures value { result ≡ K.Element.sum (power K.Element key K.Binary.width) (value_at K.Element key (stored K.Element K.Binary.width (K.Binary.bits proposal))) }
-    {
-        let powers = &mut *self.elements;
-        let highest = fill_powers(powers, key);
-        highest.plus(sum_powers(powers, proposal))
-    }
-}
-
-// An accepted polynomial and how many of its stored coefficients are one.
-#[derive(Clone, Copy)]
+/// A polynomial that passed its trial, with its weight: how many of its stored coefficients are one.
 pub struct Trial<K: Binary> {
-    pub polynomial: Accepted<K>,
-    pub weight: u32,
+    polynomial: Accepted<K>,
+    weight: u32,
+    ghost weighed: { weight ≡ ones_below K.Binary.width (K.Binary.bits polynomial.coefficients) },
 }
 
-// Accepts a proposal exactly when it annihilates the subkey. The front of the scratch, lent for this call alone, is wiped.
-pub fn try_polynomial<K: Binary>(
-    subkey: K,
-    proposal: K,
-    scratch: &mut [K],
-) -> Result<Trial<K>, Refusal>
-    ensures value { PolynomialTried K.Binary.own K.Element (length scratch.old) subkey proposal result }
-    ensures scratch { scratch.new ≡ scratch_after K.Element K.Binary.width scratch.old }
-{
-    if scratch.len() < K::width() {
-        return Err(Refusal::ScratchTooShort);
+// By hand, as of `Accepted`: no derive stands over a ghost field that cites a parameter.
+impl<K: Binary> Clone for Trial<K> {
+    ghost is_clone = { λ x y. y ≡ x };
+
+    ghost is_infallible = { λ _. ⊤ };
+
+    fn clone(&self) -> Result<Self, AllocError> {
+        Ok(*self)
     }
-    let (elements, _) = scratch.split_at_mut(K::width());
-    let mut scratch = Scratch { elements };
-    if !scratch.value_at(subkey, proposal).is_zero() {
-        return Err(Refusal::DoesNotAnnihilate);
+}
+
+impl<K: Binary> Copy for Trial<K> {}
+
+impl<K: Binary> Trial<K> {
+    pub(crate) fn new(polynomial: Accepted<K>) -> Trial<K>
+        ensures { result.polynomial ≡ polynomial }
+    {
+        let weight = polynomial.coefficients().weight();
+        Trial { polynomial, weight }
     }
-    let polynomial = Accepted {
-        subkey,
-        coefficients: proposal,
-    };
-    let weight = proposal.weight();
-    Ok(Trial { polynomial, weight })
+
+    /// The accepted polynomial, with its subkey.
+    pub fn polynomial(self) -> Accepted<K>
+        ensures { result ≡ self.polynomial }
+    {
+        self.polynomial
+    }
+
+    /// How many of the stored coefficients are one. The highest, of t to the kind's width, is not stored and not counted.
+    pub fn weight(self) -> u32
+        ensures { result ≡ ones_below K.Binary.width (K.Binary.bits self.polynomial.coefficients) }
+    {
+        self.weight
+    }
 }

@@ -35,6 +35,6 @@ pub(crate) fn print_trial(rt: &HostRuntime, words: &[String]) -> Result<(), Stop
     let subkey = Argument::Subkey.parse_block(subkey)?;
     let proposal = Argument::Proposal.parse_block(proposal)?;
     let trial = try_block(subkey, proposal)?;
-    println!(rt; "accepted, weight {}", trial.weight)?;
+    println!(rt; "accepted, weight {}", trial.weight())?;
     Ok(())
 }

@@ -7,7 +7,8 @@ use crate::flight::Flight;
 use crate::point::{Fault, Point};
 use crate::polynomials::{make_block, try_block};
 use crate::stop::{Argument, Check, Stop};
-use engine::{Division, Engine, Pair, Side, Step};
+use division::Division;
+use engine::{Engine, Pair, Side, Step};
 use field::Block;
 use job::{BodyJob, Closed, HeaderJob};
 use message::{Digest, Found, Message, Part, block_of, block_of_byte_counts};
@@ -36,9 +37,9 @@ fn try_flight(rt: &HostRuntime, flight: &Flight) -> Result<Accepted<Block>, Stop
     println!(rt;
         "{} {proposal}: ok, weight {}",
         Point::Polynomial,
-        trial.weight
+        trial.weight()
     )?;
-    Ok(trial.polynomial)
+    Ok(trial.polynomial())
 }
 
 // A job with the body cut in two, and a switch asked for between. The pad stays apart from the engine, as in a job.

@@ -2,7 +2,8 @@
 use crate::case::Case;
 use crate::fault::Fault;
 use crate::trials::accepted;
-use engine::{Division, Engine, Pair, Step};
+use division::Division;
+use engine::{Engine, Pair, Step};
 use field::{Block, Element};
 use message::{Message, block_of, block_of_byte_counts};
 use std::alloc::{AllocError, Global};

@@ -1,0 +1,5 @@
+pub mod RemainderValues
+pub mod Reductions
+pub mod Rotations
+pub mod Additions
+pub mod Absorptions

@@ -1,0 +1,26 @@
+use Rattle.std.proofs.Common.{◌≡◌, [], ◌∷◌, ap, ◌∙◌}
+use Rattle.field.specs.Kinds.{block_ring}
+use Rattle.field.specs.declared.kinds.Block.{Block}
+use Rattle.field.specs.Instances.{block_ring_laws}
+use Rattle.polynomial.specs.Blocks.{AcceptedBlock, coefficients_of}
+use Rattle.polynomial.specs.Polynomials.{value_at}
+use Rattle.division.specs.Divisions.{divisor_of, row_of, Reduced}
+use Rattle.division.specs.Remainders.{sum_of, times_t}
+use Rattle.division.specs.declared.ring.Ring.{Ring}
+use Rattle.division.proofs.RemainderValues.{remainder_value, times_t_value, constant_value, annihilated}
+use Rattle.division.proofs.division.DivisionEngine.absorb.Goals as goal
+
+-- the remainder has the value that the step of the hash wants, since the divisor is zero at the subkey
+stepped : (a : AcceptedBlock) (w w' : Ring) (p : Block) → Reduced a w p w'
+    → value_at block_ring a.subkey (row_of w') ≡ block_ring.product (block_ring.sum (value_at block_ring a.subkey (row_of w)) p) a.subkey
+stepped a w w' p divided =
+    let h : Block = a.subkey in
+    remainder_value block_ring block_ring_laws h (times_t block_ring (sum_of block_ring (row_of w) (p ∷ []))) (divisor_of a) (row_of w') 128 divided
+    (annihilated block_ring block_ring_laws h 128 (coefficients_of a.coefficients) a.annihilates)
+    ∙ times_t_value block_ring block_ring_laws h (sum_of block_ring (row_of w) (p ∷ []))
+    ∙ ap (block_ring.product h) (constant_value block_ring block_ring_laws h (row_of w) p)
+    ∙ block_ring_laws.product_comm h (block_ring.sum (value_at block_ring h (row_of w)) p)
+
+pub returns-clause-value : goal.returns-clause-value
+returns-clause-value c =
+    stepped c.args.self.now.divisor.polynomial c.args.self.now.ring c.absorb.new.self c.args.block c.absorb.ensures.divided

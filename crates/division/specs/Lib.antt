@@ -1,0 +1,4 @@
+pub mod Places
+pub mod Rotation
+pub mod Remainders
+pub mod Divisions
