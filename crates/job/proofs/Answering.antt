@@ -7,7 +7,7 @@ use Rattle.engine.specs.Hashing.{switch_answer}
 use Rattle.engine.specs.declared.engine.Engine.{Ghosts}
 use Rattle.engine.proofs.Chains.{chain_append}
 use Rattle.job.specs.Cuts.{full_blocks, left_over}
-use Rattle.job.specs.Jobs.{Fed, Switched, Holds}
+use Rattle.job.specs.Jobs.{Fed, Switches, Holds}
 use Rattle.message.specs.Limits.{refusal_of_part}
 use Rattle.job.specs.Plain.{Answer, fits, feed_answer, joined, answer_to, brought, accepted, answers_to}
 use Rattle.job.specs.Runs.{new_blocks, operations_for, operations_of, Answered}
@@ -128,7 +128,7 @@ module _ {E : Type 0} (m : Ghosts E) (h : Block) (given : Bool) (before : List B
       (fed_operations f t taken ref.now a whole held)
 
   pub answered_switch : (f t : Filling E) (taken : List ℕ) (a : Answer) → a ≡ switch_answer given → Holds m h given before t taken
-      → Switched m f (is_ok a) t → Answered m h given before f taken (Switch ∷ []) (a ∷ []) t
+      → Switches m f a t → Answered m h given before f taken (Switch ∷ []) (a ∷ []) t
   answered_switch f t taken a said holds whole =
       alone taken Switch a f t said (subst (λ (bytes : List ℕ). Holds m h given before t bytes) (sym (append-nil taken)) holds)
       (t.engine, whole.engine, refl)

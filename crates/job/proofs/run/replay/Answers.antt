@@ -37,7 +37,7 @@ returns g c =
     let lengths : block_of_counts j.header t.count ≡ block_of_counts (length header) (length body) = ap₂ block_of_counts turned.before second.holds.count in
     let ends : blocks (pending t) ++ (block_of_counts j.header t.count ∷ []) ≡ last =
     ap₂ (λ ps p. ps ++ (p ∷ [])) (ap blocks second.holds.left ∙ sym (last_left body)) lengths in
-    let close : Chain m (map absorb last) t.engine e = subst (λ (ps : List Block). Chain m (map absorb ps) t.engine e) ends c.close.ensures.whole.chain in
+    let close : Chain m (map absorb last) t.engine e = subst (λ (ps : List Block). Chain m (map absorb ps) t.engine e) ends c.close.ensures.whole.hashed.chain in
     let few : t.count ≤ body_limit = subst (λ (p : Part). t.count ≤ limit_of p) (c.answer_all-2.ensures.part ∙ j.taking) t.few in
     record {
       header = first.said ∙ ap (λ p. answers_to p given [] hs) c.start-job.result.taking;
@@ -47,7 +47,7 @@ returns g c =
       standard = c.close.ensures.standard h given header body record { before = turned.before; bytes = turned.bytes; holds = second.holds };
       chain = (
         c.start-job.result.filling.engine,
-        c.start-job.ensures.whole,
+        c.start-job.ensures.whole.resumed,
         chain_append m (operations_of [] hs xs) _ _ f.engine e first.chain
             (chain_append m (map absorb (final_block header)) _ f.engine j.filling.engine e turn
             (chain_append m (operations_of [] bs ys) (map absorb last) j.filling.engine t.engine e second.chain close)),
