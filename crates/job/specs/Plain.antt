@@ -51,3 +51,11 @@ answers_to part ready taken [] = []
 answers_to part ready taken (c ∷ cs) =
     answer_to part ready taken c
     ∷ answers_to part ready (taken ++ brought c (answer_to part ready taken c)) cs
+
+-- the answers to the calls of a part, from its beginning
+abbrev pub part_answers : Part → Bool → List Call → List Answer
+part_answers part ready calls = answers_to part ready [] calls
+
+-- the bytes that the calls bring to the part: the accepted pieces, joined
+abbrev pub bytes_taken : Part → Bool → List Call → List ℕ
+bytes_taken part ready calls = accepted calls (part_answers part ready calls)

@@ -7,15 +7,15 @@ ghost use Rattle.job.specs.Jobs.{BodyHolds, Closes, ClosesBody, FeedsBody, Switc
 ghost use Rattle.job.specs.Plain.{feed_answer, joined};
 ghost use Rattle.message.specs.declared.part.Part.TheVariants.{Body};
 
+use crate::call::Answer;
 use crate::state::{BodyJob, Closed, Filling};
 use engine::Engine;
 use field::{Block, Element};
 use message::block_of_byte_counts;
-use refusal::Refusal;
 
 impl<E: Engine> BodyJob<E> {
     // Takes the whole piece, or none of it where the body would pass its limit.
-    pub fn feed(&mut self, piece: &[u8]) -> Result<(), Refusal>
+    pub fn feed(&mut self, piece: &[u8]) -> Answer
         ensures holds { (h : Block) (switches : Bool) (header body : List ℕ) → BodyHolds E.Engine h switches self.old header body → (result ≡ feed_answer Body body piece.now) × BodyHolds E.Engine h switches self.new header (joined Body body piece.now) }
         ensures whole { FeedsBody E.Engine self.old piece.now result self.new }
     {
@@ -23,7 +23,7 @@ impl<E: Engine> BodyJob<E> {
     }
 
     // The engine's own answer; a half-filled block stays.
-    pub fn switch(&mut self) -> Result<(), Refusal>
+    pub fn switch(&mut self) -> Answer
         ensures holds { (h : Block) (switches : Bool) (header body : List ℕ) → BodyHolds E.Engine h switches self.old header body → (result ≡ switch_answer switches) × BodyHolds E.Engine h switches self.new header body }
         ensures whole { SwitchesBody E.Engine self.old result self.new }
     {

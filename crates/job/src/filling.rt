@@ -8,11 +8,11 @@ ghost use Rattle.message.specs.Blocks.{filled};
 ghost use Rattle.job.specs.Jobs.{Cut, Feeds, Flushed, Holds, Switches};
 ghost use Rattle.job.specs.Plain.{feed_answer, joined};
 
+use crate::call::Answer;
 use crate::state::Filling;
 use arrayvec::ArrayVec;
 use engine::Engine;
 use message::block_of;
-use refusal::Refusal;
 
 // The bytes that wait are hashed, filled with zeros. No method: a full block may wait here, which `Filling` rules out.
 fn absorb_held<E: Engine>(engine: &mut E, held: &mut ArrayVec<u8, 16>)
@@ -65,7 +65,7 @@ impl<E: Engine> Filling<E> {
     }
 
     // Takes a piece of the part whole, or refuses it: first what fills the block that waits, then 16 bytes at a time.
-    pub(crate) fn put(&mut self, piece: &[u8]) -> Result<(), Refusal>
+    pub(crate) fn put(&mut self, piece: &[u8]) -> Answer
         ensures part { self.new.part ≡ self.old.part }
         ensures whole { Feeds E.Engine self.old piece.now result self.new }
         ensures holds { (h : Block) (switches : Bool) (before : List Block) (taken : List ℕ) → Holds E.Engine h switches before self.old taken → (result ≡ feed_answer self.old.part taken piece.now) × Holds E.Engine h switches before self.new (joined self.old.part taken piece.now) }
@@ -82,7 +82,7 @@ impl<E: Engine> Filling<E> {
         Ok(())
     }
 
-    pub(crate) fn switch(&mut self) -> Result<(), Refusal>
+    pub(crate) fn switch(&mut self) -> Answer
         ensures whole { Switches E.Engine self.old result self.new }
         ensures holds { (h : Block) (switches : Bool) (before : List Block) (taken : List ℕ) → Holds E.Engine h switches before self.old taken → (result ≡ switch_answer switches) × Holds E.Engine h switches before self.new taken }
     {

@@ -6,12 +6,12 @@ ghost use Rattle.job.specs.Jobs.{BodyHolds, FeedsHeader, HeaderHolds, Starts, Sw
 ghost use Rattle.job.specs.Plain.{feed_answer, joined};
 ghost use Rattle.message.specs.declared.part.Part.TheVariants.{Header};
 
+use crate::call::Answer;
 use crate::state::{BodyJob, Filling, HeaderJob};
 use arrayvec::ArrayVec;
 use engine::Engine;
 use field::{Block, Element};
 use message::Part;
-use refusal::Refusal;
 
 impl<E: Engine> HeaderJob<E> {
     // The engine starts at zero, whatever it hashed before.
@@ -31,7 +31,7 @@ impl<E: Engine> HeaderJob<E> {
     }
 
     // Takes the whole piece, or none of it where the header would pass its limit.
-    pub fn feed(&mut self, piece: &[u8]) -> Result<(), Refusal>
+    pub fn feed(&mut self, piece: &[u8]) -> Answer
         ensures holds { (h : Block) (switches : Bool) (header : List ℕ) → HeaderHolds E.Engine h switches self.old header → (result ≡ feed_answer Header header piece.now) × HeaderHolds E.Engine h switches self.new (joined Header header piece.now) }
         ensures whole { FeedsHeader E.Engine self.old piece.now result self.new }
     {
@@ -39,7 +39,7 @@ impl<E: Engine> HeaderJob<E> {
     }
 
     // The engine's own answer; a half-filled block stays.
-    pub fn switch(&mut self) -> Result<(), Refusal>
+    pub fn switch(&mut self) -> Answer
         ensures holds { (h : Block) (switches : Bool) (header : List ℕ) → HeaderHolds E.Engine h switches self.old header → (result ≡ switch_answer switches) × HeaderHolds E.Engine h switches self.new header }
         ensures whole { SwitchesHeader E.Engine self.old result self.new }
     {
