@@ -4,6 +4,7 @@ use Rattle.field.specs.Kinds.{block_ring}
 use Rattle.field.specs.declared.kinds.Block.{Block}
 use Rattle.message.specs.Limits.{header_limit, body_limit}
 use Rattle.message.specs.Blocks.{blocks, block_of_counts, block_list}
+use Rattle.message.specs.Hash.{hash_of}
 use Rattle.message.specs.Standard.{MeetsStandard}
 use Rattle.engine.specs.Chain.{Operation, resume, absorb, switch, Chain}
 use Rattle.engine.specs.declared.engine.Engine.{Ghosts}
@@ -117,6 +118,10 @@ module _ {E : Type 0} (m : Ghosts E) (engine : E) (calls : Calls) where
 
   abbrev pub taken_body : List ℕ
   taken_body = bytes_taken Body (m.ready_of engine) calls.body.now
+
+  -- what the run hashes to, under the engine's subkey
+  abbrev pub hash_of_run : Block
+  hash_of_run = hash_of (m.subkey_of engine) taken_header taken_body
 
   pub record Replays (pad : Block) (closed : Closed E) : Type 0 where
     pub short : (length taken_header ≤ header_limit) × (length taken_body ≤ body_limit)

@@ -10,6 +10,6 @@ mod run;
 mod state;
 
 pub use call::{Answer, Call, Calls};
-pub use difference::hash_difference;
+pub use difference::{difference_of_runs, hash_difference};
 pub use run::replay;
 pub use state::{BodyJob, Closed, HeaderJob};
