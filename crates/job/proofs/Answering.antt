@@ -1,5 +1,6 @@
 -- Lists of calls with their answers, joined end to end.
-use Rattle.std.proofs.Common.{◌≡◌, ℕ, suc, Bool, true, false, cond, List, [], ◌∷◌, ◌++◌, map, length, drop, is_ok, Ok, Err, sym, refl, ap, ◌∙◌, subst, ap₂, append_assoc, append-nil, arith, Bor, MatchResult}
+use Rattle.std.proofs.Common.{◌≡◌, ℕ, suc, ◌+◌, Bool, true, false, cond, List, [], ◌∷◌, ◌++◌, map, length, drop, set, is_ok, Ok, Err, sym, refl, ap, ◌∙◌, subst, ap₂, append_assoc, append-nil, arith, length-append, Bor, MatchResult}
+use Rattle.std.proofs.Math.Seq.{take-nil, drop-nil}
 use Rattle.std.proofs.lemmas.List.{drop_at, drop_all}
 use Rattle.field.specs.declared.kinds.Block.{Block}
 use Rattle.engine.specs.Chain.{Operation, absorb, Chain}
@@ -7,10 +8,10 @@ use Rattle.engine.specs.Hashing.{switch_answer}
 use Rattle.engine.specs.declared.engine.Engine.{Ghosts}
 use Rattle.engine.proofs.Chains.{chain_append}
 use Rattle.job.specs.Cuts.{full_blocks, left_over}
-use Rattle.job.specs.Jobs.{Fed, Switched, Holds}
+use Rattle.job.specs.Jobs.{Fed, Switches, Holds}
 use Rattle.message.specs.Limits.{refusal_of_part}
-use Rattle.job.specs.Plain.{Answer, fits, feed_answer, joined, answer_to, brought, accepted, answers_to}
-use Rattle.job.specs.Runs.{new_blocks, operations_for, operations_of, Answered}
+use Rattle.job.specs.Plain.{Answer, fits, feed_answer, joined, answer_to, brought, accepted, answers_to, part_answers}
+use Rattle.job.specs.Runs.{new_blocks, operations_for, operations_of, Answered, AnswersCalls, AnswersIntoRow, row_after}
 use Rattle.job.specs.declared.call.Call.{Call}
 use Rattle.job.specs.declared.call.Call.TheVariants.{Feed, Switch}
 use Rattle.message.specs.declared.part.Part.{Part}
@@ -128,7 +129,47 @@ module _ {E : Type 0} (m : Ghosts E) (h : Block) (given : Bool) (before : List B
       (fed_operations f t taken ref.now a whole held)
 
   pub answered_switch : (f t : Filling E) (taken : List ℕ) (a : Answer) → a ≡ switch_answer given → Holds m h given before t taken
-      → Switched m f (is_ok a) t → Answered m h given before f taken (Switch ∷ []) (a ∷ []) t
+      → Switches m f a t → Answered m h given before f taken (Switch ∷ []) (a ∷ []) t
   answered_switch f t taken a said holds whole =
       alone taken Switch a f t said (subst (λ (bytes : List ℕ). Holds m h given before t bytes) (sym (append-nil taken)) holds)
       (t.engine, whole.engine, refl)
+
+-- ---- rows of answers
+
+row_none : (row : List Answer) → row ≡ row_after row []
+row_none row = ap (λ ys. ys ++ row) (sym (take-nil (length row)))
+
+row_more : (row xs : List Answer) (a : Answer) → set (row_after row xs) (length xs) a ≡ row_after row (xs ++ (a ∷ []))
+row_more [] xs a = ap (λ ys. set ys (length xs) a) (drop-nil (length xs)) ∙ sym (drop-nil (length (xs ++ (a ∷ []))))
+row_more (r ∷ row) [] a = ap (λ ys. a ∷ ys) (row_none row)
+row_more (r ∷ row) (x ∷ xs) a = ap (λ ys. x ∷ ys) (row_more row xs a)
+
+module _ {E : Type 0} (m : Ghosts E) (f : Filling E) (row : List Answer) where
+  pub all_none : AnswersIntoRow m f [] row f row
+  all_none = record {
+    answers = [];
+    count = refl;
+    written = row_none row;
+    answered = λ h given before taken held. answered_none m h given before f taken [] refl held;
+  }
+
+  pub all_more : (g t : Filling E) (cs : List Call) (c : Call) (middle after : List Answer) (a : Answer) (n : ℕ) → AnswersIntoRow m f cs row g middle
+      → g.part ≡ f.part → length cs ≡ n → after ≡ set middle n a → AnswersCalls m g (c ∷ []) (a ∷ []) t → AnswersIntoRow m f (cs ++ (c ∷ [])) row t after
+  all_more g t cs c middle after a n so_far kept place wrote one = record {
+    answers = so_far.answers ++ (a ∷ []);
+    count = length-append so_far.answers (a ∷ []) ∙ ap (λ k. k + 1) so_far.count ∙ sym (length-append cs (c ∷ []));
+    written = wrote ∙ ap₂ (λ ys k. set ys k a) so_far.written (sym (so_far.count ∙ place)) ∙ row_more row so_far.answers a;
+    answered = λ h given before taken held.
+        let said = so_far.answered h given before taken held in
+        answered_append m h given before f g t taken cs (c ∷ []) so_far.answers (a ∷ []) said
+        (one h given before (taken ++ accepted cs so_far.answers) said.holds) kept;
+  }
+
+  -- a part's calls from its beginning, in the words of the plain job
+  pub from_beginning : (h : Block) (given : Bool) (before : List Block) (part : Part) (t : Filling E) (calls : List Call) (after : List Answer)
+      → f.part ≡ part → AnswersIntoRow m f calls row t after → Holds m h given before f []
+      → (after ≡ row_after row (part_answers part given calls)) × Answered m h given before f [] calls (part_answers part given calls) t
+  from_beginning h given before part t calls after kept all held =
+      let said = all.answered h given before [] held in
+      let plain : all.answers ≡ part_answers part given calls = said.said ∙ ap (λ p. answers_to p given [] calls) kept in
+      (all.written ∙ ap (row_after row) plain, subst (λ (xs : List Answer). Answered m h given before f [] calls xs t) plain said)

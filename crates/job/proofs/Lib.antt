@@ -5,3 +5,4 @@ pub mod Closing
 pub mod Answering
 pub mod Differences
 pub mod Ordering
+pub mod Replaying

@@ -1,13 +1,16 @@
 -- What a job did with its bytes, and what it holds.
-use Rattle.std.specs.Prelude.{◌≡◌, ℕ, ◌+◌, Bool, List, [], ◌∷◌, ◌++◌, length}
+use Rattle.std.specs.Prelude.{◌≡◌, ℕ, ◌+◌, Bool, List, [], ◌∷◌, ◌++◌, length, is_ok, MatchResult}
 use Rattle.field.specs.Evaluation.{eval}
 use Rattle.field.specs.Kinds.{block_ring}
 use Rattle.field.specs.declared.kinds.Block.{Block}
 use Rattle.message.specs.Blocks.{AreBytes, blocks, block_of_counts}
 use Rattle.message.specs.Hash.{hash_of, tag_of}
+use Rattle.engine.specs.Hashing.{switch_answer}
 use Rattle.engine.specs.Rows.{Hashed}
 use Rattle.engine.specs.declared.engine.Engine.{Ghosts}
+use Rattle.message.specs.declared.part.Part.TheVariants.{Header, Body}
 use Rattle.job.specs.Cuts.{full_blocks, left_over}
+use Rattle.job.specs.Plain.{Answer, answer_after}
 use Rattle.job.specs.declared.state.Filling.{Filling}
 use Rattle.job.specs.declared.state.HeaderJob.{HeaderJob}
 use Rattle.job.specs.declared.state.BodyJob.{BodyJob}
@@ -25,12 +28,28 @@ module _ {E : Type 0} (m : Ghosts E) where
     pub count : t.count ≡ f.count
     pub part : t.part ≡ f.part
 
-  -- From one state to the next by the bytes of a piece: the blocks that it fills are hashed, the rest waits.
+  -- A piece was taken whole: the blocks that it fills are hashed, the rest waits, and the count goes up by its length.
   pub record Fed (f : Filling E) (piece : List ℕ) (t : Filling E) : Type 0 where
     pub hashed : Hashed m f.engine (full_blocks (pending f ++ piece)) t.engine
     pub left : pending t ≡ left_over (pending f ++ piece)
     pub count : t.count ≡ f.count + length piece
     pub part : t.part ≡ f.part
+
+  -- A feed of a part: the piece is taken where the count that the part holds leaves room for it, else nothing changes.
+  pub record Feeds (f : Filling E) (piece : List ℕ) (result : Answer) (t : Filling E) : Type 0 where
+    pub answer : result ≡ answer_after f.part f.count piece
+    pub outcome : MatchResult result (λ _. Fed f piece t) (λ _. t ≡ f)
+
+  -- A feed in the header state.
+  pub record FeedsHeader (j : HeaderJob E) (piece : List ℕ) (result : Answer) (t : HeaderJob E) : Type 0 where
+    pub answer : result ≡ answer_after Header j.filling.count piece
+    pub outcome : MatchResult result (λ _. Fed j.filling piece t.filling) (λ _. t ≡ j)
+
+  -- A feed in the body state: the header's length stays.
+  pub record FeedsBody (j : BodyJob E) (piece : List ℕ) (result : Answer) (t : BodyJob E) : Type 0 where
+    pub answer : result ≡ answer_after Body j.filling.count piece
+    pub outcome : MatchResult result (λ _. Fed j.filling piece t.filling) (λ _. t ≡ j)
+    pub header : t.header ≡ j.header
 
   -- The waiting bytes were hashed, filled with zeros; none wait now.
   pub record Flushed (f t : Filling E) : Type 0 where
@@ -39,12 +58,57 @@ module _ {E : Type 0} (m : Ghosts E) where
     pub count : t.count ≡ f.count
     pub part : t.part ≡ f.part
 
-  -- The engine was asked to switch; the bytes stay.
-  pub record Switched (f : Filling E) (answer : Bool) (t : Filling E) : Type 0 where
-    pub engine : m.switched f.engine answer t.engine
-    pub left : t.held ≡ f.held
+  -- What an engine computes stays the same.
+  pub record ComputesSame (e d : E) : Type 0 where
+    pub value : m.value_of d ≡ m.value_of e
+    pub subkey : m.subkey_of d ≡ m.subkey_of e
+    pub ready : m.ready_of d ≡ m.ready_of e
+
+  -- The engine was asked to switch: accepted exactly where it is ready. All that the part holds stays.
+  pub record Switches (f : Filling E) (result : Answer) (t : Filling E) : Type 0 where
+    pub answer : result ≡ switch_answer (m.ready_of f.engine)
+    pub engine : m.switched f.engine (is_ok result) t.engine
+    pub same : ComputesSame f.engine t.engine
+    pub held : t.held ≡ f.held
     pub count : t.count ≡ f.count
     pub part : t.part ≡ f.part
+
+  -- A switch in the header state.
+  abbrev pub SwitchesHeader : HeaderJob E → Answer → HeaderJob E → Type 0
+  SwitchesHeader j result t = Switches j.filling result t.filling
+
+  -- A switch in the body state: the header's length stays.
+  pub record SwitchesBody (j : BodyJob E) (result : Answer) (t : BodyJob E) : Type 0 where
+    pub switches : Switches j.filling result t.filling
+    pub header : t.header ≡ j.header
+
+  -- A job begins: its engine goes on from zero, whatever it hashed before, and the header has taken nothing.
+  pub record Starts (e : E) (j : HeaderJob E) : Type 0 where
+    pub resumed : m.resumed e block_ring.zero j.filling.engine
+    pub value : m.value_of j.filling.engine ≡ block_ring.zero
+    pub subkey : m.subkey_of j.filling.engine ≡ m.subkey_of e
+    pub ready : m.ready_of j.filling.engine ≡ m.ready_of e
+    pub left : pending j.filling ≡ []
+    pub count : j.filling.count ≡ 0
+    pub part : j.filling.part ≡ Header
+
+  -- The header's last block was hashed, its length is kept, and the body has taken nothing yet.
+  pub record Turned (j : HeaderJob E) (b : BodyJob E) : Type 0 where
+    pub hashed : Hashed m j.filling.engine (blocks (pending j.filling)) b.filling.engine
+    pub left : pending b.filling ≡ []
+    pub header : b.header ≡ j.filling.count
+    pub count : b.filling.count ≡ 0
+    pub part : b.filling.part ≡ Body
+
+  -- The body's last block and the length block were hashed.
+  abbrev pub ClosedBy : BodyJob E → E → Type 0
+  ClosedBy j e = Hashed m j.filling.engine (blocks (pending j.filling) ++ (block_of_counts j.header j.filling.count ∷ [])) e
+
+  -- The close: hash is T of the engine handed back, and the pad makes it the tag.
+  pub record ClosesBody (j : BodyJob E) (pad : Block) (closed : Closed E) : Type 0 where
+    pub hashed : ClosedBy j closed.engine
+    pub hash : closed.hash ≡ m.value_of closed.engine
+    pub tag : closed.tag ≡ block_ring.sum closed.hash pad
 
   -- The engine came with this subkey and this ready, and after the blocks before it the part has taken these bytes:
   -- T is the evaluation of the blocks already full.
@@ -63,16 +127,6 @@ module _ {E : Type 0} (m : Ghosts E) where
     pub before : j.header ≡ length header
     pub bytes : AreBytes header
     pub holds : Holds h switches (blocks header) j.filling body
-
-  -- The header's last block was hashed, and the body has taken nothing yet.
-  pub record Turned (j : HeaderJob E) (b : BodyJob E) : Type 0 where
-    pub hashed : Hashed m j.filling.engine (blocks (pending j.filling)) b.filling.engine
-    pub left : pending b.filling ≡ []
-    pub counts : (b.header ≡ j.filling.count) × (b.filling.count ≡ 0)
-
-  -- The body's last block and the length block were hashed.
-  abbrev pub ClosedBy : BodyJob E → E → Type 0
-  ClosedBy j e = Hashed m j.filling.engine (blocks (pending j.filling) ++ (block_of_counts j.header j.filling.count ∷ [])) e
 
   -- A closed job: hash and tag of these bytes under the subkey and the pad; the engine has its subkey and ready, and T is the hash.
   pub record Closes (h : Block) (switches : Bool) (pad : Block) (closed : Closed E) (header body : List ℕ) : Type 0 where

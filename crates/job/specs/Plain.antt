@@ -10,12 +10,20 @@ use Rattle.message.specs.declared.part.Part.{Part}
 abbrev pub Answer : Type 0
 Answer = Result (Unit {0}) Refusal
 
+-- whether a part that has taken so many bytes stays within its limit with the piece
+abbrev pub has_room : Part → ℕ → List ℕ → Bool
+has_room part count piece = nat_le (count + length piece) (limit_of part)
+
+-- what a piece is answered after so many bytes: accepted within the limit, else the part's refusal
+abbrev pub answer_after : Part → ℕ → List ℕ → Answer
+answer_after part count piece = cond (has_room part count piece) (Ok tt) (Err (refusal_of_part part))
+
 -- whether the taken bytes and the piece together are within the part's limit
 abbrev pub fits : Part → List ℕ → List ℕ → Bool
-fits part taken piece = nat_le (length taken + length piece) (limit_of part)
+fits part taken piece = has_room part (length taken) piece
 
 abbrev pub feed_answer : Part → List ℕ → List ℕ → Answer
-feed_answer part taken piece = cond (fits part taken piece) (Ok tt) (Err (refusal_of_part part))
+feed_answer part taken piece = answer_after part (length taken) piece
 
 -- the bytes of the part after a feed: a piece is taken whole or not at all
 abbrev pub joined : Part → List ℕ → List ℕ → List ℕ
@@ -43,3 +51,11 @@ answers_to part ready taken [] = []
 answers_to part ready taken (c ∷ cs) =
     answer_to part ready taken c
     ∷ answers_to part ready (taken ++ brought c (answer_to part ready taken c)) cs
+
+-- the answers to the calls of a part, from its beginning
+abbrev pub part_answers : Part → Bool → List Call → List Answer
+part_answers part ready calls = answers_to part ready [] calls
+
+-- the bytes that the calls bring to the part: the accepted pieces, joined
+abbrev pub bytes_taken : Part → Bool → List Call → List ℕ
+bytes_taken part ready calls = accepted calls (part_answers part ready calls)

@@ -1,19 +1,21 @@
 -- Lists of calls: what a job's engine goes through, and what comes of it.
-use Rattle.std.specs.Prelude.{◌≡◌, ℕ, ◌≤◌, Bool, List, [], ◌∷◌, ◌++◌, map, length, drop, is_ok, vec_items}
+use Rattle.std.specs.Prelude.{◌≡◌, ℕ, ◌≤◌, Bool, List, [], ◌∷◌, ◌++◌, map, length, take, drop, is_ok}
 use Rattle.field.specs.Kinds.{block_ring}
 use Rattle.field.specs.declared.kinds.Block.{Block}
 use Rattle.message.specs.Limits.{header_limit, body_limit}
 use Rattle.message.specs.Blocks.{blocks, block_of_counts, block_list}
+use Rattle.message.specs.Hash.{hash_of}
 use Rattle.message.specs.Standard.{MeetsStandard}
 use Rattle.engine.specs.Chain.{Operation, resume, absorb, switch, Chain}
 use Rattle.engine.specs.declared.engine.Engine.{Ghosts}
 use Rattle.job.specs.Cuts.{full_blocks}
 use Rattle.job.specs.Jobs.{Holds, Closes}
-use Rattle.job.specs.Plain.{Answer, brought, accepted, answers_to}
+use Rattle.job.specs.Plain.{Answer, brought, accepted, answers_to, part_answers, bytes_taken}
 use Rattle.job.specs.declared.call.Call.{Call}
+use Rattle.job.specs.declared.call.Calls.{Calls}
 use Rattle.job.specs.declared.call.Call.TheVariants.{Feed, Switch}
 use Rattle.message.specs.declared.part.Part.TheVariants.{Header, Body}
-use Rattle.job.specs.declared.replayed.Replayed.{Replayed}
+use Rattle.job.specs.declared.state.Closed.{Closed}
 use Rattle.job.specs.declared.state.Filling.{Filling}
 
 -- the blocks that become full when a piece joins the taken bytes
@@ -85,29 +87,47 @@ pub record Answered {E : Type 0} (m : Ghosts E) (h : Block) (given : Bool) (befo
   pub holds : Holds m h given before t (taken ++ accepted calls answers)
   pub chain : Chain m (operations_of taken calls answers) f.engine t.engine
 
--- A whole job, run on an engine from two lists of calls.
-module _ {E : Type 0} (m : Ghosts E) (engine : E) (pad : Block) (hs bs : List Call) (done : Replayed E) where
+-- a lent row after the answers: those that it has room for, and behind them what it held
+abbrev pub row_after : List Answer → List Answer → List Answer
+row_after row answers = take (length row) answers ++ drop (length answers) row
+
+module _ {E : Type 0} (m : Ghosts E) where
+  -- From one state to another by a list of calls with their answers, whatever was taken before. Only private functions cite it.
+  abbrev pub AnswersCalls : Filling E → List Call → List Answer → Filling E → Type 0
+  AnswersCalls f calls answers t =
+      (h : Block) (given : Bool) (before : List Block) (taken : List ℕ) → Holds m h given before f taken → Answered m h given before f taken calls answers t
+
+  -- Each of a list of calls was made, and its answer went to a row. Only private functions cite it.
+  pub record AnswersIntoRow (f : Filling E) (calls : List Call) (row : List Answer) (t : Filling E) (after : List Answer) : Type 0 where
+    pub answers : List Answer
+    pub count : length answers ≡ length calls
+    pub written : after ≡ row_after row answers
+    pub answered : AnswersCalls f calls answers t
+
+-- A whole job, run on an engine from its calls.
+module _ {E : Type 0} (m : Ghosts E) (engine : E) (calls : Calls) where
   abbrev header_answers : List Answer
-  header_answers = vec_items done.header
+  header_answers = part_answers Header (m.ready_of engine) calls.header.now
 
   abbrev body_answers : List Answer
-  body_answers = vec_items done.body
+  body_answers = part_answers Body (m.ready_of engine) calls.body.now
 
-  -- the taken bytes: the pieces whose answer was acceptance
-  abbrev taken_header : List ℕ
-  taken_header = accepted hs header_answers
+  -- the bytes of each part that are taken in the run
+  abbrev pub taken_header : List ℕ
+  taken_header = bytes_taken Header (m.ready_of engine) calls.header.now
 
-  abbrev taken_body : List ℕ
-  taken_body = accepted bs body_answers
+  abbrev pub taken_body : List ℕ
+  taken_body = bytes_taken Body (m.ready_of engine) calls.body.now
 
-  pub record Replays : Type 0 where
-    -- each answer is the plain job's
-    pub header : header_answers ≡ answers_to Header (m.ready_of engine) [] hs
-    pub body : body_answers ≡ answers_to Body (m.ready_of engine) [] bs
+  -- what the run hashes to, under the engine's subkey
+  abbrev pub hash_of_run : Block
+  hash_of_run = hash_of (m.subkey_of engine) taken_header taken_body
+
+  pub record Replays (pad : Block) (closed : Closed E) : Type 0 where
     pub short : (length taken_header ≤ header_limit) × (length taken_body ≤ body_limit)
     -- hash and tag of the taken bytes, under the engine's subkey and the pad; what the engine means then
-    pub closes : Closes m (m.subkey_of engine) (m.ready_of engine) pad done.closed taken_header taken_body
-    pub standard : MeetsStandard (m.subkey_of engine) pad taken_header taken_body done.closed.hash done.closed.tag
+    pub closes : Closes m (m.subkey_of engine) (m.ready_of engine) pad closed taken_header taken_body
+    pub standard : MeetsStandard (m.subkey_of engine) pad taken_header taken_body closed.hash closed.tag
     -- all that the engine went through, from the one handed in to the one handed back
-    pub chain : Chain m (run_operations hs header_answers bs body_answers) engine done.closed.engine
-    pub order : InOrder hs header_answers bs body_answers
+    pub chain : Chain m (run_operations calls.header.now header_answers calls.body.now body_answers) engine closed.engine
+    pub order : InOrder calls.header.now header_answers calls.body.now body_answers

@@ -1,31 +1,31 @@
 // The body state of a job, and its close.
-ghost use Rattle.std.specs.Prelude.{◌≡◌, ℕ, Bool, List, is_ok, MatchResult};
+ghost use Rattle.std.specs.Prelude.{◌≡◌, ℕ, Bool, List};
 ghost use Rattle.field.specs.declared.kinds.Block.{Block};
 ghost use Rattle.engine.specs.Hashing.{switch_answer};
 ghost use Rattle.message.specs.Standard.{MeetsStandard};
-ghost use Rattle.job.specs.Jobs.{BodyHolds, ClosedBy, Closes, Fed, Switched};
+ghost use Rattle.job.specs.Jobs.{BodyHolds, Closes, ClosesBody, FeedsBody, SwitchesBody};
 ghost use Rattle.job.specs.Plain.{feed_answer, joined};
 ghost use Rattle.message.specs.declared.part.Part.TheVariants.{Body};
 
+use crate::call::Answer;
 use crate::state::{BodyJob, Closed, Filling};
 use engine::Engine;
 use field::{Block, Element};
 use message::block_of_byte_counts;
-use refusal::Refusal;
 
 impl<E: Engine> BodyJob<E> {
     // Takes the whole piece, or none of it where the body would pass its limit.
-    pub fn feed(&mut self, piece: &[u8]) -> Result<(), Refusal>
+    pub fn feed(&mut self, piece: &[u8]) -> Answer
         ensures holds { (h : Block) (switches : Bool) (header body : List ℕ) → BodyHolds E.Engine h switches self.old header body → (result ≡ feed_answer Body body piece.now) × BodyHolds E.Engine h switches self.new header (joined Body body piece.now) }
-        ensures whole { MatchResult result (λ _. Fed E.Engine self.old.filling piece.now self.new.filling) (λ _. self.new ≡ self.old) }
+        ensures whole { FeedsBody E.Engine self.old piece.now result self.new }
     {
         self.filling.put(piece)
     }
 
     // The engine's own answer; a half-filled block stays.
-    pub fn switch(&mut self) -> Result<(), Refusal>
+    pub fn switch(&mut self) -> Answer
         ensures holds { (h : Block) (switches : Bool) (header body : List ℕ) → BodyHolds E.Engine h switches self.old header body → (result ≡ switch_answer switches) × BodyHolds E.Engine h switches self.new header body }
-        ensures whole { Switched E.Engine self.old.filling (is_ok result) self.new.filling }
+        ensures whole { SwitchesBody E.Engine self.old result self.new }
     {
         self.filling.switch()
     }
@@ -34,7 +34,7 @@ impl<E: Engine> BodyJob<E> {
     pub fn close(self, pad: Block) -> Closed<E>
         ensures closes { (h : Block) (switches : Bool) (header body : List ℕ) → BodyHolds E.Engine h switches self header body → Closes E.Engine h switches pad result header body }
         ensures standard { (h : Block) (switches : Bool) (header body : List ℕ) → BodyHolds E.Engine h switches self header body → MeetsStandard h pad header body result.hash result.tag }
-        ensures whole { ClosedBy E.Engine self result.engine }
+        ensures whole { ClosesBody E.Engine self pad result }
     {
         let BodyJob {
             mut filling,

@@ -1,18 +1,18 @@
 // Bytes cut into blocks on their way to an engine.
-ghost use Rattle.std.specs.Prelude.{◌≡◌, ℕ, Bool, List, [], ◌∷◌, take, is_ok, MatchResult};
+ghost use Rattle.std.specs.Prelude.{◌≡◌, ℕ, Bool, List, [], ◌∷◌, take};
 ghost use Rattle.field.specs.Bytes.{block_of};
 ghost use Rattle.field.specs.declared.kinds.Block.{Block};
 ghost use Rattle.engine.specs.Hashing.{switch_answer};
 ghost use Rattle.engine.specs.Rows.{Hashed};
 ghost use Rattle.message.specs.Blocks.{filled};
-ghost use Rattle.job.specs.Jobs.{Cut, Fed, Flushed, Holds, Switched};
+ghost use Rattle.job.specs.Jobs.{Cut, Feeds, Flushed, Holds, Switches};
 ghost use Rattle.job.specs.Plain.{feed_answer, joined};
 
+use crate::call::Answer;
 use crate::state::Filling;
 use arrayvec::ArrayVec;
 use engine::Engine;
 use message::block_of;
-use refusal::Refusal;
 
 // The bytes that wait are hashed, filled with zeros. No method: a full block may wait here, which `Filling` rules out.
 fn absorb_held<E: Engine>(engine: &mut E, held: &mut ArrayVec<u8, 16>)
@@ -65,9 +65,9 @@ impl<E: Engine> Filling<E> {
     }
 
     // Takes a piece of the part whole, or refuses it: first what fills the block that waits, then 16 bytes at a time.
-    pub(crate) fn put(&mut self, piece: &[u8]) -> Result<(), Refusal>
+    pub(crate) fn put(&mut self, piece: &[u8]) -> Answer
         ensures part { self.new.part ≡ self.old.part }
-        ensures whole { MatchResult result (λ _. Fed E.Engine self.old piece.now self.new) (λ _. self.new ≡ self.old) }
+        ensures whole { Feeds E.Engine self.old piece.now result self.new }
         ensures holds { (h : Block) (switches : Bool) (before : List Block) (taken : List ℕ) → Holds E.Engine h switches before self.old taken → (result ≡ feed_answer self.old.part taken piece.now) × Holds E.Engine h switches before self.new (joined self.old.part taken piece.now) }
     {
         if piece.len() as u64 > self.part.limit() - self.count {
@@ -82,8 +82,8 @@ impl<E: Engine> Filling<E> {
         Ok(())
     }
 
-    pub(crate) fn switch(&mut self) -> Result<(), Refusal>
-        ensures whole { Switched E.Engine self.old (is_ok result) self.new }
+    pub(crate) fn switch(&mut self) -> Answer
+        ensures whole { Switches E.Engine self.old result self.new }
         ensures holds { (h : Block) (switches : Bool) (before : List Block) (taken : List ℕ) → Holds E.Engine h switches before self.old taken → (result ≡ switch_answer switches) × Holds E.Engine h switches before self.new taken }
     {
         self.engine.switch()

@@ -1,24 +1,23 @@
 // The header state of a job.
-ghost use Rattle.std.specs.Prelude.{◌≡◌, ℕ, Bool, List, [], is_ok, MatchResult};
-ghost use Rattle.field.specs.Kinds.{block_ring};
+ghost use Rattle.std.specs.Prelude.{◌≡◌, ℕ, Bool, List, []};
 ghost use Rattle.field.specs.declared.kinds.Block.{Block};
 ghost use Rattle.engine.specs.Hashing.{switch_answer};
-ghost use Rattle.job.specs.Jobs.{BodyHolds, Fed, HeaderHolds, Switched, Turned};
+ghost use Rattle.job.specs.Jobs.{BodyHolds, FeedsHeader, HeaderHolds, Starts, SwitchesHeader, Turned};
 ghost use Rattle.job.specs.Plain.{feed_answer, joined};
 ghost use Rattle.message.specs.declared.part.Part.TheVariants.{Header};
 
+use crate::call::Answer;
 use crate::state::{BodyJob, Filling, HeaderJob};
 use arrayvec::ArrayVec;
 use engine::Engine;
 use field::{Block, Element};
 use message::Part;
-use refusal::Refusal;
 
 impl<E: Engine> HeaderJob<E> {
     // The engine starts at zero, whatever it hashed before.
     pub fn start(mut engine: E) -> HeaderJob<E>
         ensures holds { HeaderHolds E.Engine (E.subkey_of engine) (E.ready_of engine) result [] }
-        ensures whole { E.resumed engine block_ring.zero result.filling.engine }
+        ensures whole { Starts E.Engine engine result }
     {
         engine.resume(Block::zero());
         HeaderJob {
@@ -32,17 +31,17 @@ impl<E: Engine> HeaderJob<E> {
     }
 
     // Takes the whole piece, or none of it where the header would pass its limit.
-    pub fn feed(&mut self, piece: &[u8]) -> Result<(), Refusal>
+    pub fn feed(&mut self, piece: &[u8]) -> Answer
         ensures holds { (h : Block) (switches : Bool) (header : List ℕ) → HeaderHolds E.Engine h switches self.old header → (result ≡ feed_answer Header header piece.now) × HeaderHolds E.Engine h switches self.new (joined Header header piece.now) }
-        ensures whole { MatchResult result (λ _. Fed E.Engine self.old.filling piece.now self.new.filling) (λ _. self.new ≡ self.old) }
+        ensures whole { FeedsHeader E.Engine self.old piece.now result self.new }
     {
         self.filling.put(piece)
     }
 
     // The engine's own answer; a half-filled block stays.
-    pub fn switch(&mut self) -> Result<(), Refusal>
+    pub fn switch(&mut self) -> Answer
         ensures holds { (h : Block) (switches : Bool) (header : List ℕ) → HeaderHolds E.Engine h switches self.old header → (result ≡ switch_answer switches) × HeaderHolds E.Engine h switches self.new header }
-        ensures whole { Switched E.Engine self.old.filling (is_ok result) self.new.filling }
+        ensures whole { SwitchesHeader E.Engine self.old result self.new }
     {
         self.filling.switch()
     }

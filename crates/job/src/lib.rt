@@ -6,12 +6,10 @@ mod call;
 mod difference;
 mod filling;
 mod header;
-mod replayed;
 mod run;
 mod state;
 
-pub use call::Call;
-pub use difference::hash_difference;
-pub use replayed::Replayed;
+pub use call::{Answer, Call, Calls};
+pub use difference::{difference_of_runs, hash_difference};
 pub use run::replay;
 pub use state::{BodyJob, Closed, HeaderJob};

@@ -1,23 +1,29 @@
 // Whole jobs from lists of calls.
-ghost use Rattle.std.specs.Prelude.{◌≡◌, ℕ, ◌≤◌, Bool, List, [], ◌∷◌, length, vec_capacity, MatchResult};
-ghost use Rattle.field.specs.declared.kinds.Block.{Block};
-ghost use Rattle.job.specs.Jobs.{Holds};
-ghost use Rattle.job.specs.Runs.{Answered, Replays};
+ghost use Rattle.std.specs.Prelude.{◌≡◌, [], ◌∷◌, slice_set};
+ghost use Rattle.job.specs.Plain.{part_answers};
+ghost use Rattle.job.specs.Runs.{AnswersCalls, AnswersIntoRow, Replays, row_after};
+ghost use Rattle.message.specs.declared.part.Part.TheVariants.{Header, Body};
 
-use crate::call::Call;
-use crate::replayed::Replayed;
-use crate::state::{Filling, HeaderJob};
+use crate::call::{Answer, Call, Calls};
+use crate::state::{Closed, Filling, HeaderJob};
 use engine::Engine;
 use field::Block;
-use refusal::Refusal;
-use std::alloc::Global;
+
+// Writes an answer at its place, where the row reaches so far.
+fn write(row: &mut [Answer], place: usize, answer: Answer)
+    ensures { row.new ≡ slice_set row.old place answer }
+{
+    if place < row.len() {
+        row[place] = answer;
+    }
+}
 
 impl<E: Engine> Filling<E> {
     // A match and no closures: calls are values that come from a list, and these are their two kinds. That the part stays is said of
     // two states of a filling, which the invariant of one does not say.
-    fn answer(&mut self, call: &Call) -> Result<(), Refusal>
+    fn answer(&mut self, call: &Call) -> Answer
         ensures part { self.new.part ≡ self.old.part }
-        ensures answered { (h : Block) (given : Bool) (before : List Block) (taken : List ℕ) → Holds E.Engine h given before self.old taken → Answered E.Engine h given before self.old taken (call.now ∷ []) (result ∷ []) self.new }
+        ensures answered { AnswersCalls E.Engine self.old (call.now ∷ []) (result ∷ []) self.new }
     {
         match call {
             Call::Feed(piece) => self.put(piece),
@@ -25,45 +31,37 @@ impl<E: Engine> Filling<E> {
         }
     }
 
-    // Every call in turn, each answer pushed to the end of the answers.
-    pub(crate) fn answer_all(&mut self, calls: &[Call], answers: &mut Vec<Result<(), Refusal>>)
-        requires none { answers.old.items ≡ [] }
-        requires room { length calls.now ≤ vec_capacity answers.old }
+    // Every call in turn, also those that the row has no place for.
+    pub(crate) fn answer_all(&mut self, calls: &[Call], row: &mut [Answer])
         ensures part { self.new.part ≡ self.old.part }
-        ensures answered { (h : Block) (given : Bool) (before : List Block) (taken : List ℕ) → Holds E.Engine h given before self.old taken → Answered E.Engine h given before self.old taken calls.now answers.new.items self.new }
+        ensures answered { AnswersIntoRow E.Engine self.old calls.now row.old self.new row.new }
     {
-        // No `collect`: the room for both lists is there before anything is begun.
-        for call in calls {
-            answers.push_reserved(self.answer(call));
+        for (place, call) in calls.iter().enumerate() {
+            write(row, place, self.answer(call));
         }
     }
 }
 
-// A whole job: the header's calls, the turn, the body's calls, and the close. Where there is no memory for the answers,
-// nothing is begun, and the engine comes back. The pad stays apart from the engine, since it is used at the close alone.
+/// A whole job: the header's calls, the turn, the body's calls, and the close. Every call is made, and every run ends in a close.
+///
+/// The answers go to the fronts of the two rows. A row shorter than its calls holds the first answers, so an empty one will do, and
+/// what stands past the answers stays. The pad stays apart from the engine, since it is used at the close alone.
 pub fn replay<E: Engine>(
-    heap: Global,
     engine: E,
-    header: &[Call],
-    body: &[Call],
+    calls: Calls,
     pad: Block,
-) -> Result<Replayed<E>, E>
-    ensures { MatchResult result (λ done. Replays E.Engine engine pad header.now body.now done) (λ e. e ≡ engine) }
+    header_answers: &mut [Answer],
+    body_answers: &mut [Answer],
+) -> Closed<E>
+    ensures header { let answers = part_answers Header (E.ready_of engine) calls.entry.header.now
+        in header_answers.new ≡ row_after header_answers.old answers }
+    ensures body { let answers = part_answers Body (E.ready_of engine) calls.entry.body.now
+        in body_answers.new ≡ row_after body_answers.old answers }
+    ensures run { Replays E.Engine engine calls.entry pad result }
 {
-    // No `?`: what comes back is the engine, and not the error.
-    let Ok(mut header_answers) = Vec::with_capacity(heap, header.len()) else {
-        return Err(engine);
-    };
-    let Ok(mut body_answers) = Vec::with_capacity(heap, body.len()) else {
-        return Err(engine);
-    };
     let mut job = HeaderJob::start(engine);
-    job.filling.answer_all(header, &mut header_answers);
+    job.filling.answer_all(calls.header, header_answers);
     let mut job = job.turn();
-    job.filling.answer_all(body, &mut body_answers);
-    Ok(Replayed {
-        header: header_answers,
-        body: body_answers,
-        closed: job.close(pad),
-    })
+    job.filling.answer_all(calls.body, body_answers);
+    job.close(pad)
 }

@@ -1,15 +1,13 @@
-use Rattle.std.proofs.Common.{◌≡◌, ℕ, ◌≤◌, List, [], ◌∷◌, ◌++◌, map, length, vec_items, sym, ap, ◌∙◌, subst, ap₂, arith}
-use Rattle.field.specs.declared.kinds.Block.{Block}
-use Rattle.message.specs.Blocks.{blocks, block_of_counts}
+use Rattle.std.proofs.Common.{ℕ, ◌≤◌, List, [], refl, ◌∙◌, subst, arith}
+use Rattle.message.specs.Blocks.{blocks}
 use Rattle.message.specs.Limits.{body_limit, limit_of}
 use Rattle.message.specs.declared.part.Part.{Part}
-use Rattle.engine.specs.Chain.{absorb, Chain}
-use Rattle.engine.proofs.Chains.{chain_append}
-use Rattle.job.specs.Jobs.{pending}
-use Rattle.job.specs.Plain.{Answer, accepted, answers_to}
-use Rattle.job.specs.Runs.{final_block, operations_of}
+use Rattle.message.specs.declared.part.Part.TheVariants.{Header, Body}
+use Rattle.job.specs.Plain.{part_answers, bytes_taken}
 use Rattle.job.specs.declared.call.Call.{Call}
-use Rattle.job.proofs.Ordering.{in_order, last_left}
+use Rattle.job.proofs.Answering.{from_beginning}
+use Rattle.job.proofs.Ordering.{in_order}
+use Rattle.job.proofs.Replaying.{body_held, run_chain}
 use Rattle.job.proofs.run.replay.Goals as goal
 
 pub returns : goal.returns
@@ -18,39 +16,30 @@ returns g c =
     let engine = c.args.engine in
     let h = m.subkey_of engine in
     let given = m.ready_of engine in
-    let hs : List Call = c.args.header.now in
-    let bs : List Call = c.args.body.now in
-    let xs : List Answer = vec_items c.answer_all.new.answers in
-    let ys : List Answer = vec_items c.answer_all-2.new.answers in
-    let header : List ℕ = accepted hs xs in
-    let body : List ℕ = accepted bs ys in
+    let hs : List Call = c.args.calls.header.now in
+    let bs : List Call = c.args.calls.body.now in
+    let header : List ℕ = bytes_taken Header given hs in
+    let body : List ℕ = bytes_taken Body given bs in
+    let i = c.start-job.result in
+    let b = c.turn-job.result in
     let f = c.answer_all.new.self in
-    let j = c.turn-job.result in
     let t = c.answer_all-2.new.self in
-    let e = c.close.result.engine in
-    let first = c.answer_all.ensures.answered h given [] [] c.start-job.ensures.holds in
-    let turned = c.turn-job.ensures.holds h given header first.holds in
-    let second = c.answer_all-2.ensures.answered h given (blocks header) [] turned.holds in
-    let last : List Block = final_block body ++ (block_of_counts (length header) (length body) ∷ []) in
-    let turn : Chain m (map absorb (final_block header)) f.engine j.filling.engine =
-    subst (λ (ps : List Block). Chain m (map absorb ps) f.engine j.filling.engine) (ap blocks first.holds.left ∙ sym (last_left header)) c.turn-job.ensures.whole.hashed.chain in
-    let lengths : block_of_counts j.header t.count ≡ block_of_counts (length header) (length body) = ap₂ block_of_counts turned.before second.holds.count in
-    let ends : blocks (pending t) ++ (block_of_counts j.header t.count ∷ []) ≡ last =
-    ap₂ (λ ps p. ps ++ (p ∷ [])) (ap blocks second.holds.left ∙ sym (last_left body)) lengths in
-    let close : Chain m (map absorb last) t.engine e = subst (λ (ps : List Block). Chain m (map absorb ps) t.engine e) ends c.close.ensures.whole.chain in
-    let few : t.count ≤ body_limit = subst (λ (p : Part). t.count ≤ limit_of p) (c.answer_all-2.ensures.part ∙ j.taking) t.few in
+    let first =
+    from_beginning m i.filling c.args.header_answers.now h given [] Header f hs c.answer_all.new.row i.taking c.answer_all.ensures.answered c.start-job.ensures.holds in
+    let turned = c.turn-job.ensures.holds h given header first.1.holds in
+    let second =
+    from_beginning m b.filling c.args.body_answers.now h given (blocks header) Body t bs c.answer_all-2.new.row b.taking c.answer_all-2.ensures.answered turned.holds in
+    let few : t.count ≤ body_limit = subst (λ (p : Part). t.count ≤ limit_of p) (c.answer_all-2.ensures.part ∙ b.taking) t.few in
     record {
-      header = first.said ∙ ap (λ p. answers_to p given [] hs) c.start-job.result.taking;
-      body = second.said ∙ ap (λ p. answers_to p given [] bs) j.taking;
-      short = (subst (λ (n : ℕ). n ≤ 65535) turned.before j.short, omega (arith, few, second.holds.count));
-      closes = c.close.ensures.closes h given header body record { before = turned.before; bytes = turned.bytes; holds = second.holds };
-      standard = c.close.ensures.standard h given header body record { before = turned.before; bytes = turned.bytes; holds = second.holds };
-      chain = (
-        c.start-job.result.filling.engine,
-        c.start-job.ensures.whole,
-        chain_append m (operations_of [] hs xs) _ _ f.engine e first.chain
-            (chain_append m (map absorb (final_block header)) _ f.engine j.filling.engine e turn
-            (chain_append m (operations_of [] bs ys) (map absorb last) j.filling.engine t.engine e second.chain close)),
-      );
-      order = in_order hs xs bs ys;
+      header = first.0;
+      body = second.0;
+      run = record {
+        short = (subst (λ (n : ℕ). n ≤ 65535) turned.before b.short, omega (arith, few, second.1.holds.count));
+        closes = c.close.ensures.closes h given header body (body_held m h given b _ header body refl turned second.1.holds);
+        standard = c.close.ensures.standard h given header body (body_held m h given b _ header body refl turned second.1.holds);
+        chain =
+            run_chain m h given engine c.args.pad c.close.result i _ b _ hs bs (part_answers Header given hs) (part_answers Body given bs) c.start-job.ensures.whole
+            first.1 c.turn-job.ensures.whole second.1 (body_held m h given b _ header body refl turned second.1.holds) c.close.ensures.whole;
+        order = in_order hs (part_answers Header given hs) bs (part_answers Body given bs);
+      };
     }

@@ -40,5 +40,9 @@ returns g c =
           subst (λ (x : Block). MeetsStandard h pad header body c.value-hash.result x) (sym tagged)
           (subst (λ (x : Block). MeetsStandard h pad header body x (tag_of h pad header body)) (sym value)
           (meets_standard h pad header body held.bytes held.holds.bytes));
-      whole = hashed_append m f.engine t.engine e (blocks (pending f)) (block_of_counts j.header f.count ∷ []) flushed.hashed last;
+      whole = record {
+        hashed = hashed_append m f.engine t.engine e (blocks (pending f)) (block_of_counts j.header f.count ∷ []) flushed.hashed last;
+        hash = answer;
+        tag = c.plus-tag.ensures;
+      };
     }

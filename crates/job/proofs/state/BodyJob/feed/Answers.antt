@@ -1,22 +1,28 @@
-use Rattle.std.proofs.Common.{◌≡◌, refl, subst}
-use Rattle.message.specs.Blocks.{blocks}
+use Rattle.std.proofs.Common.{◌≡◌, refl, ap, ◌∙◌, subst}
 use Rattle.std.proofs.lemmas.Result.{MatchResult-weaker}
+use Rattle.message.specs.Blocks.{blocks}
 use Rattle.message.specs.declared.part.Part.{Part}
 use Rattle.job.specs.Jobs.{Holds}
-use Rattle.job.specs.Plain.{feed_answer, joined}
+use Rattle.job.specs.Plain.{answer_after, feed_answer, joined}
 use Rattle.job.proofs.Same.{same_body}
 use Rattle.job.proofs.state.BodyJob.feed.Goals as goal
 
 pub returns : goal.returns
 returns g c =
+    let j = c.args.self.now in
     let piece = c.args.piece.now in
     let answer = c.put.result in
     let t = c.put.new.self in
+    let fed = c.put.ensures.whole in
     record {
       holds = λ h switches header body held.
           let said =
           subst (λ (p : Part). (answer ≡ feed_answer p body piece) × Holds g.E.Engine h switches (blocks header) t (joined p body piece))
-          c.args.self.now.taking (c.put.ensures.holds h switches (blocks header) body held.holds) in
+          j.taking (c.put.ensures.holds h switches (blocks header) body held.holds) in
           (said.0, record { before = held.before; bytes = held.bytes; holds = said.1 });
-      whole = MatchResult-weaker answer c.put.ensures.whole (λ x fed. fed) (λ x same. same_body _ _ same refl);
+      whole = record {
+        answer = fed.answer ∙ ap (λ p. answer_after p j.filling.count piece) j.taking;
+        outcome = MatchResult-weaker answer fed.outcome (λ x taken. taken) (λ x same. same_body _ _ same refl);
+        header = refl;
+      };
     }

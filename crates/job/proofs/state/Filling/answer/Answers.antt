@@ -11,7 +11,7 @@ returns-in-Feed-clause-answered g c = λ h given before taken held.
     let t = c.put.new.self in
     let said = c.put.ensures.holds h given before taken held in
     subst (λ (call : Call). Answered m h given before f taken (call ∷ []) (c.put.result ∷ []) t) (sym c.in-Feed.is)
-    (answered_feed m h given before f t taken _ c.put.result said.0 said.1 c.put.ensures.whole held)
+    (answered_feed m h given before f t taken _ c.put.result said.0 said.1 c.put.ensures.whole.outcome held)
 
 pub returns-in-Switch-clause-answered : goal.returns-in-Switch-clause-answered
 returns-in-Switch-clause-answered g c = λ h given before taken held.

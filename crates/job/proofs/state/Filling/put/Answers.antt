@@ -1,9 +1,9 @@
-use Rattle.std.proofs.Common.{◌≡◌, ℕ, ◌+◌, ◌≤◌, true, List, [], ◌++◌, length, sym, refl, ap, ◌∙◌, append_assoc, append-nil, arith, le-leb}
+use Rattle.std.proofs.Common.{◌≡◌, ℕ, ◌+◌, true, List, [], ◌++◌, length, sym, refl, ap, ◌∙◌, append_assoc, append-nil, arith, le-leb}
 use Rattle.std.specs.Slice.Iter.{chunks_rest}
 use Rattle.std.proofs.lemmas.List.{nil_from_length}
 use Rattle.message.specs.Limits.{limit_of}
 use Rattle.job.specs.Jobs.{Fed}
-use Rattle.job.specs.Plain.{fits}
+use Rattle.job.specs.Plain.{has_room, fits}
 use Rattle.job.proofs.Feeding.{cut_none, cut_append, fed_by, holds_append}
 use Rattle.job.proofs.state.Filling.put.Goals as goal
 
@@ -35,11 +35,12 @@ returns g c =
     let done = cut_append m _ c.hold.new.self t c.split_at.result.0.now inv.0 c.hold.ensures inv.2 in
     let fed : Fed m f piece t = fed_by m f _ t _ piece done all refl refl refl refl in
     let below = c.if-piece-limit.false in
+    let room : has_room f.part f.count piece ≡ true =
+    le-leb (f.count + length piece) (limit_of f.part) (omega (arith, c.limit.ensures, below, f.few)) in
     record {
       part = fed.part;
-      whole = fed;
+      whole = record { answer = rw room refl; outcome = fed };
       holds = λ h switches before taken held.
-          let within : length taken + length piece ≤ limit_of f.part = omega (arith, held.count, c.limit.ensures, below, f.few) in
-          let within-limit : fits f.part taken piece ≡ true = le-leb (length taken + length piece) (limit_of f.part) within in
-          (rw within-limit refl, rw within-limit (holds_append m h switches before f t taken held piece (λ k. (c.type_inv.piece k).fits) fed));
+          let same : fits f.part taken piece ≡ true = ap (λ n. has_room f.part n piece) (sym held.count) ∙ room in
+          (rw same refl, rw same (holds_append m h switches before f t taken held piece (λ k. (c.type_inv.piece k).fits) fed));
     }

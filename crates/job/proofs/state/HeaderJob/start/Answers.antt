@@ -16,5 +16,13 @@ returns g c =
         value = said.value ∙ c.zero.ensures;
         bytes = λ k. omega arith;
       };
-      whole = subst (λ (v : Block). g.E.Engine.resumed c.args.engine v c.resume.new.self) c.zero.ensures said.whole;
+      whole = record {
+        resumed = subst (λ (v : Block). g.E.Engine.resumed c.args.engine v c.resume.new.self) c.zero.ensures said.whole;
+        value = said.value ∙ c.zero.ensures;
+        subkey = said.subkey;
+        ready = said.ready;
+        left = c.new.ensures;
+        count = refl;
+        part = refl;
+      };
     }

@@ -28,5 +28,5 @@ returns g c =
           bytes = λ k. omega arith;
         };
       };
-      whole = record { hashed = flushed.hashed; left = flushed.left; counts = (flushed.count, refl) };
+      whole = record { hashed = flushed.hashed; left = flushed.left; header = flushed.count; count = refl; part = refl };
     }
