@@ -1,4 +1,4 @@
--- Why a file is refused: for its size, its first flaw, want of an end, its header's length or its tag.
+-- Why a file is refused: its size, its first flaw, want of an end, its header's length, or its tag.
 use Rattle.std.specs.Prelude.{◌≡◌, ◌≢◌, ℕ, ◌-◌, ◌/◌, ◌%◌, ◌<◌, ◌≤◌, List, All, length, take}
 use Rattle.field.specs.Bytes.{bytes_of}
 use Rattle.field.specs.declared.kinds.Block.{Block}
@@ -132,7 +132,7 @@ pub record HasLongHeader (file : List ℕ) : Type 0 where
   pub scan : PassesScan file
   pub long : header_limit < length (header_in file)
 
--- A file that passes the scan, with a header within its limit; its tag is not that of what is read out of it.
+-- A file that passes the scan and has a header within its limit, but holds another tag than it should.
 pub record HoldsOtherTag (subkey pad : Block) (file : List ℕ) : Type 0 where
   pub scan : PassesScan file
   pub short : length (header_in file) ≤ header_limit

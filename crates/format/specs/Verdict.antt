@@ -17,7 +17,7 @@ after (Err e) f = Err e
 abbrev pub lengths_of : List ℕ → List ℕ → Lengths
 lengths_of header body = record { header = length header; body = length body }
 
--- size, then block by block, then the end: how long the parts of a file are that no block speaks against
+-- size, then block by block, then the end: the lengths of both parts, or the first fault
 abbrev pub scan_answer : List ℕ → Result Lengths Refusal
 scan_answer file =
     if is_size_good file
