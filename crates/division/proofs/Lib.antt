@@ -3,3 +3,4 @@ pub mod Reductions
 pub mod Rotations
 pub mod Additions
 pub mod Absorptions
+pub mod OneRemainder

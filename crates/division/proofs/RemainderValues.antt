@@ -10,6 +10,10 @@ use Rattle.polynomial.specs.Polynomials.{value_from, value_at, element, stored, 
 use Rattle.polynomial.proofs.Values.{value_push, one_product}
 use Rattle.division.specs.Remainders.{sum_of, scaled, times_t, product_of, Divided}
 
+pub length_stored : {K : Type 0} (m : Ghosts K) (n : ℕ) (bits : ℕ → Bool) → length (stored m n bits) ≡ n
+unfolding stored
+length_stored m n bits = length-map-range_with_len (λ k. element m (bits k)) 0 n
+
 module _ {K : Type 0} (m : Ghosts K) (laws : CommutativeRing m.zero m.one m.sum m.product) (r : K) where
   four : (a b c d : K) → m.sum (m.sum a b) (m.sum c d) ≡ m.sum (m.sum a c) (m.sum b d)
   four a b c d =
@@ -100,10 +104,9 @@ module _ {K : Type 0} (m : Ghosts K) (laws : CommutativeRing m.zero m.one m.sum 
 
   -- a polynomial that annihilates r, its highest term written out, is zero at r
   pub annihilated : (n : ℕ) (bits : ℕ → Bool) → Annihilates m n bits r → value_at m r (stored m n bits ++ (m.one ∷ [])) ≡ m.zero
-  unfolding stored
   annihilated n bits zero-there =
       let cs : List K = stored m n bits in
-      let long : 0 + length cs ≡ n = zero-add (length cs) ∙ length-map-range_with_len (λ k. element m (bits k)) 0 n in
+      let long : 0 + length cs ≡ n = zero-add (length cs) ∙ length_stored m n bits in
       value_push m laws r 0 cs m.one
       ∙ ap (m.sum (value_at m r cs)) (one_product m laws (power m r (0 + length cs)) ∙ ap (power m r) long)
       ∙ laws.sum_comm (value_at m r cs) (power m r n)

@@ -25,3 +25,8 @@ module _ {K : Type 0} (m : Ghosts K) where
     pub quotient : List K
     pub whole : polynomial ≡ sum_of (product_of quotient divisor) remainder
     pub short : length remainder ≡ n
+
+  -- Whatever is a remainder of this division is this one.
+  abbrev pub IsOnlyRemainder : List K → List K → List K → ℕ → Type 0
+  IsOnlyRemainder polynomial divisor remainder n =
+      (other : List K) → Divided polynomial divisor other n → other ≡ remainder

@@ -1,4 +1,8 @@
 // The division engine: W, a polynomial in t of degree below 128 with blocks as coefficients, stands for its value at H.
+//
+// A block P makes W the remainder of t·(W + P) under division by a polynomial that is zero at H, so that W's value at H becomes
+// (T + P)·H: one step of the hash. The divisor's coefficients are zero and one, so a division only moves and adds blocks; a product
+// of blocks is made where the value is asked for, and nowhere else.
 ghost use Rattle.std.specs.Prelude.{◌≡◌, false};
 ghost use Rattle.division.specs.Divisions.{Born, DivisionAbsorbed, DivisionResumed, division_value};
 

@@ -1,13 +1,14 @@
-use Rattle.std.proofs.Common.{◌≡◌, [], ◌∷◌, ap, ◌∙◌}
+use Rattle.std.proofs.Common.{◌≡◌, [], ◌∷◌, ap, ◌∙◌, rules}
 use Rattle.field.specs.Kinds.{block_ring}
 use Rattle.field.specs.declared.kinds.Block.{Block}
 use Rattle.field.specs.Instances.{block_ring_laws}
 use Rattle.polynomial.specs.Blocks.{AcceptedBlock, coefficients_of}
-use Rattle.polynomial.specs.Polynomials.{value_at}
-use Rattle.division.specs.Divisions.{divisor_of, row_of, Reduced}
+use Rattle.polynomial.specs.Polynomials.{value_at, stored}
+use Rattle.division.specs.Divisions.{divisor_of, row_of, dividend, Reduced}
 use Rattle.division.specs.Remainders.{sum_of, times_t}
 use Rattle.division.specs.declared.ring.Ring.{Ring}
-use Rattle.division.proofs.RemainderValues.{remainder_value, times_t_value, constant_value, annihilated}
+use Rattle.division.proofs.OneRemainder.{only_remainder}
+use Rattle.division.proofs.RemainderValues.{remainder_value, times_t_value, constant_value, annihilated, length_stored}
 use Rattle.division.proofs.division.DivisionEngine.absorb.Goals as goal
 
 -- the remainder has the value that the step of the hash wants, since the divisor is zero at the subkey
@@ -24,3 +25,16 @@ stepped a w w' p divided =
 pub returns-clause-value : goal.returns-clause-value
 returns-clause-value c =
     stepped c.args.self.now.divisor.polynomial c.args.self.now.ring c.absorb.new.self c.args.block c.absorb.ensures.divided
+
+pub returns-clause-whole : goal.returns-clause-whole
+returns-clause-whole c =
+    let a : AcceptedBlock = c.args.self.now.divisor.polynomial in
+    record {
+      kept = search rules;
+      divided = c.absorb.ensures.divided;
+      only =
+          only_remainder block_ring block_ring_laws (dividend c.args.self.now.ring c.args.block)
+          (stored block_ring 128 (coefficients_of a.coefficients)) (row_of c.absorb.new.self) 128
+          (length_stored block_ring 128 (coefficients_of a.coefficients)) c.absorb.ensures.divided;
+      turn = c.absorb.ensures.turn;
+    }
