@@ -6,19 +6,25 @@ use crate::stop::{Argument, Stop};
 use crate::words::exactly;
 use division::Division;
 use engine::{Pair, Side};
-use job::{Call, Replayed, replay};
+use job::{Answer, Call, Calls, Closed, replay};
 use message::Part;
-use refusal::Refusal;
-use std::alloc::AllocError;
 use std::io;
 
 type Engines = Pair<engine::Step, Division>;
+
+// What comes of a script: an answer for each call, and the closed job.
+#[derive(Drop)]
+struct Outcome {
+    header: Vec<Answer>,
+    body: Vec<Answer>,
+    closed: Closed<Engines>,
+}
 
 fn print_step(
     rt: &HostRuntime,
     part: Part,
     step: &Step,
-    answer: &Result<(), Refusal>,
+    answer: &Answer,
 ) -> io::Result<()> {
     let line = step.line;
     // A plain match, here and below: what was asked and what came of it are known only at run time.
@@ -33,7 +39,7 @@ fn print_step(
 }
 
 // How many bytes of a part were taken. Steps and answers stand apart, since the library answers by a list of its own.
-fn taken(steps: &[Step], answers: &[Result<(), Refusal>]) -> u64 {
+fn taken(steps: &[Step], answers: &[Answer]) -> u64 {
     let taken = steps
         .iter()
         .zip(answers)
@@ -46,7 +52,7 @@ fn print_part(
     rt: &HostRuntime,
     part: Part,
     steps: &[Step],
-    answers: &[Result<(), Refusal>],
+    answers: &[Answer],
 ) -> io::Result<()> {
     for (step, answer) in steps.iter().zip(answers) {
         print_step(rt, part, step, answer)?;
@@ -54,7 +60,7 @@ fn print_part(
     Ok(())
 }
 
-fn print_replay(rt: &HostRuntime, script: &Script, done: &Replayed<Engines>) -> io::Result<()> {
+fn print_replay(rt: &HostRuntime, script: &Script, done: &Outcome) -> io::Result<()> {
     print_part(rt, Part::Header, &script.header, &done.header)?;
     println!(rt; "line {}: turn: accepted", script.turn)?;
     print_part(rt, Part::Body, &script.body, &done.body)?;
@@ -70,20 +76,26 @@ fn print_replay(rt: &HostRuntime, script: &Script, done: &Replayed<Engines>) -> 
     println!(rt; "tag {}", done.closed.tag)
 }
 
-fn run_script(rt: &HostRuntime, key: Key, script: &Script) -> Result<(), Stop> {
+// Drives a job through the script. The rows are as long as their calls, so every answer finds its place.
+fn run_script(rt: &HostRuntime, key: Key, script: &Script) -> Result<Outcome, Stop> {
     let engines = Pair::new(key.step(), Division::new(accepted(key.subkey)?));
-    let header: Vec<Call> = script.header.iter().map(Step::call).collect(rt.alloc())?;
-    let body: Vec<Call> = script.body.iter().map(Step::call).collect(rt.alloc())?;
-    let done = replay(rt.alloc(), engines, &header, &body, key.pad).map_err(
-        |_engines| Stop::NoMemory(AllocError),
-    )?;
-    print_replay(rt, script, &done)?;
-    Ok(())
+    let steps: Vec<Call> = script.header.iter().map(Step::call).collect(rt.alloc())?;
+    let body_steps: Vec<Call> = script.body.iter().map(Step::call).collect(rt.alloc())?;
+    let calls = Calls {
+        header: &steps,
+        body: &body_steps,
+    };
+    let mut header: Vec<Answer> = vec![in rt.alloc(); Ok(()); steps.len()]?;
+    let mut body: Vec<Answer> = vec![in rt.alloc(); Ok(()); body_steps.len()]?;
+    let closed = replay(engines, calls, key.pad, &mut header, &mut body);
+    Ok(Outcome { header, body, closed })
 }
 
 pub(crate) fn replay_script(rt: &HostRuntime, words: &[String]) -> Result<(), Stop> {
     let [subkey, pad, script] = exactly::<3>(words)?;
     let key = Key::read(subkey, pad)?;
     let text = Argument::Script.read_text(rt, script)?;
-    run_script(rt, key, &Script::read(rt, &text)?)
+    let script = Script::read(rt, &text)?;
+    print_replay(rt, &script, &run_script(rt, key, &script)?)?;
+    Ok(())
 }

@@ -6,7 +6,7 @@ use crate::trials::accepted;
 use division::Division;
 use engine::{Engine, Pair, Step};
 use field::{Block, Element};
-use job::{Call, Closed, hash_difference, replay};
+use job::{Call, Calls, Closed, difference_of_runs, replay};
 use message::Message;
 use polynomial::Accepted;
 use std::alloc::{AllocError, Global};
@@ -16,6 +16,22 @@ const CUTS: [usize; 5] = [1, 7, 15, 16, 17];
 // Both parts at one lifetime.
 fn message_of<'a>(header: &'a [u8], body: &'a [u8]) -> Message<'a> {
     Message { header, body }
+}
+
+// The pieces of a message, as calls.
+#[derive(Drop)]
+struct Pieces<'a> {
+    header: Vec<Call<'a>>,
+    body: Vec<Call<'a>>,
+}
+
+impl Pieces<'_> {
+    fn calls(&self) -> Calls<'_> {
+        Calls {
+            header: &self.header,
+            body: &self.body,
+        }
+    }
 }
 
 // How a message is fed, and under which pad its job is closed.
@@ -29,20 +45,23 @@ struct Feeding {
 
 impl Feeding {
     // A part in pieces, and a switch after each.
-    fn calls<'a>(self, part: &'a [u8]) -> Result<Vec<Call<'a>>, AllocError> {
+    fn cut<'a>(self, part: &'a [u8]) -> Result<Vec<Call<'a>>, AllocError> {
         part.chunks(self.cut.max(1))
             .flat_map(|piece| [Call::Feed(piece), Call::Switch])
             .collect(self.heap)
     }
 
+    fn pieces<'a>(self, message: Message<'a>) -> Result<Pieces<'a>, AllocError> {
+        Ok(Pieces {
+            header: self.cut(message.header)?,
+            body: self.cut(message.body)?,
+        })
+    }
+
     // The closed job of a message.
-    fn close<E: Engine + Drop>(self, engine: E, message: Message) -> Result<Closed<E>, Fault> {
-        let header = self.calls(message.header)?;
-        let body = self.calls(message.body)?;
-        let done = replay(self.heap, engine, &header, &body, self.pad).map_err(
-            |_| Fault::NoMemory,
-        )?;
-        Ok(done.closed)
+    fn close<E: Engine + Drop>(self, engine: E, message: Message) -> Result<Closed<E>, AllocError> {
+        let pieces = self.pieces(message)?;
+        Ok(replay(engine, pieces.calls(), self.pad, &mut [], &mut []))
     }
 }
 
@@ -76,10 +95,11 @@ impl Case {
             cut,
             pad: Block::zero(),
         };
-        let first = feeding(16).close(step(), self.message())?;
-        let second = feeding(5).close(step(), complement)?;
+        let first = feeding(16).pieces(self.message())?;
+        let second = feeding(5).pieces(complement)?;
+        let difference = difference_of_runs(step(), first.calls(), step(), second.calls());
         let blocks = blocks_of(heap, message_of(&zeros, &ones), Block::zero())?;
-        Ok(hash_difference(&first, &second) == hash(&mut step(), &blocks, 1))
+        Ok(difference == hash(&mut step(), &blocks, 1))
     }
 }
 
