@@ -10,7 +10,7 @@ loop-place-preserved c =
     let row : List ℕ = c.args.bytes.now in
     let i : ℕ = c.loop-place.place in
     let in_row : i < length row = omega (arith, c.as_chunks.ensures.front_len) in
-    ap₂ (λ (xs : List ℕ) (b : ℕ). set xs i b) c.loop-place.invariant (ap₂ (λ (h l : ℕ). 16 * h + l) c.value.ensures.value c.value-in-loop-place.ensures.value)
+    ap₂ (λ (xs : List ℕ) (b : ℕ). set xs i b) c.loop-place.invariant (omega (arith, c.value.ensures.value, c.value-in-loop-place.ensures.value))
     ∙ one_byte_more pairs row i c.loop-place-test.true in_row
 
 pub returns : goal.returns
