@@ -1,1 +1,2 @@
+pub mod Pairs
 pub mod Values

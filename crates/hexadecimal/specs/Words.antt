@@ -1,32 +1,33 @@
--- What each call answers to a text: the length is looked at first, then the digits from the left, then memory.
-use Rattle.std.specs.Prelude.{◌≡◌, ℕ, ◌%◌, cond, List, length, Some, None, Ok, Err, vec_items, Option, Result, Vec, MatchResult, ◌==◌}
-use Rattle.std.specs.declared.alloc.Global.{Global}
+-- What each call answers to a text: the length is looked at first, then the digits from the left, then the room.
+use Rattle.std.specs.Prelude.{◌≡◌, ℕ, ◌/◌, ◌%◌, cond, List, ◌++◌, length, drop, Some, None, Ok, Err, Option, Result, ◌==◌, nat_le}
 use Rattle.field.specs.Kinds.{block}
 use Rattle.field.specs.declared.kinds.Block.{Block}
 use Rattle.hexadecimal.specs.declared.HexFault.{HexFault}
-use Rattle.hexadecimal.specs.declared.HexFault.TheVariants.{WrongLength, NotADigit, NoMemory}
+use Rattle.hexadecimal.specs.declared.HexFault.TheVariants.{WrongLength, NotADigit, RowTooShort}
 use Rattle.hexadecimal.specs.Digits.{first_bad, number_in, bytes_from}
 
 -- an answer, unless some place holds no digit
-abbrev pub unless_bad : {T : Type 0} → Option ℕ → T → Result T HexFault
-unless_bad None answer = Ok answer
+abbrev pub unless_bad : {T : Type 0} → Option ℕ → Result T HexFault → Result T HexFault
+unless_bad None answer = answer
 unless_bad (Some i) answer = Err (NotADigit i)
 
 -- 32 digits
 abbrev pub block_in : List ℕ → Result Block HexFault
 block_in text =
     cond (length text == 32)
-    (unless_bad (first_bad text) (block (number_in text)))
+    (unless_bad (first_bad text) (Ok (block (number_in text))))
     (Err (WrongLength (length text)))
 
--- an even count of digits
-abbrev pub bytes_in : List ℕ → Result (List ℕ) HexFault
-bytes_in text =
+-- how many bytes an even count of digits writes, where a row holds as many
+abbrev pub bytes_count : List ℕ → ℕ → Result ℕ HexFault
+bytes_count text room =
     cond (length text % 2 == 0)
-    (unless_bad (first_bad text) (bytes_from text))
+    (unless_bad (first_bad text)
+    (cond (nat_le (length text / 2) room) (Ok (length text / 2))
+    (Err (RowTooShort (length text / 2)))))
     (Err (WrongLength (length text)))
 
--- a text without fault gives its bytes, or there is no memory for them; a fault of the text is told as it is
-abbrev pub BytesRead : Result (List ℕ) HexFault → Result (Vec ℕ Global) HexFault → Type 0
-BytesRead (Ok bytes) r = MatchResult r (λ v. vec_items v ≡ bytes) (λ fault. fault ≡ NoMemory)
-BytesRead (Err fault) r = r ≡ Err fault
+-- The bytes of a text stand at the front of a row, and the rest is as before; or there was a fault, and all is as before.
+abbrev pub WritesBytes : List ℕ → List ℕ → List ℕ → Result ℕ HexFault → Type 0
+WritesBytes text before after (Ok count) = after ≡ bytes_from text ++ drop count before
+WritesBytes text before after (Err fault) = after ≡ before

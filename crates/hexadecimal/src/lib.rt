@@ -1,25 +1,25 @@
-// Hexadecimal words that a user gives, read as a block or as bytes.
+// Hexadecimal words that a user gives, read as a block or as bytes. Nothing is allocated: bytes go into a row that the caller lends.
 #![tactic(auto)]
 
-ghost use Rattle.std.specs.Prelude.{◌≡◌, ◌<◌, ◌≤◌, length, IfOk};
+ghost use Rattle.std.specs.Prelude.{◌≡◌, ◌*◌, ◌/◌, ◌<◌, ◌≤◌, ◌++◌, length, drop, Ok};
 ghost use Rattle.hexadecimal.specs.Digits.{digit_of, value_of, first_bad, number_in, bytes_from};
-ghost use Rattle.hexadecimal.specs.Words.{unless_bad, block_in, bytes_in, BytesRead};
+ghost use Rattle.hexadecimal.specs.Words.{unless_bad, block_in, bytes_count, WritesBytes};
 
 use field::Block;
-use std::alloc::{AllocError, Global};
 use std::error::Error;
 use std::fmt;
 
 const BLOCK_DIGITS: usize = 32;
 
+/// Why a text is refused.
 #[derive(Clone, Copy, PartialEq, Eq, Debug)]
 pub enum HexFault {
-    // The word has this many digits, and another count is wanted: 32 for a block, an even count for bytes.
+    /// The word has this many digits, and another count is wanted: 32 for a block, an even count for bytes.
     WrongLength { digits: usize },
-    // The byte at this place, counted from 0, is no hexadecimal digit.
+    /// The byte at this place, counted from 0, is no hexadecimal digit.
     NotADigit { at: usize },
-    // There was no memory for the bytes.
-    NoMemory,
+    /// The digits write this many bytes, and the row that was lent holds fewer.
+    RowTooShort { needed: usize },
 }
 
 impl fmt::Display for HexFault {
@@ -35,26 +35,16 @@ impl fmt::Display for HexFault {
                 f,
                 "the character at place {at}, from 0, is no hexadecimal digit"
             ),
-            HexFault::NoMemory => write!(f, "no memory"),
+            HexFault::RowTooShort { needed } => write!(f, "no room for {needed} bytes"),
         }
     }
 }
 
 impl Error for HexFault {}
 
-// By hand: the derive would state nothing of which fault comes out.
-impl From<AllocError> for HexFault {
-    ghost use Rattle.std.specs.Prelude.{◌≡◌};
-    ghost use Rattle.hexadecimal.specs.declared.HexFault.TheVariants.{NoMemory};
-
-    ghost from_gives = { λ _ fault. fault ≡ NoMemory };
-
-    fn from(_error: AllocError) -> HexFault {
-        HexFault::NoMemory
-    }
-}
-
-// A block, from 32 digits of either case, the first the highest.
+/// A block, from 32 digits of either case, the first the highest.
+///
+/// A text is refused for any other length, and then for the first place that is no digit.
 pub fn parse_block(text: &str) -> Result<Block, HexFault>
     ensures { result ≡ block_in text.now }
 {
@@ -66,16 +56,26 @@ pub fn parse_block(text: &str) -> Result<Block, HexFault>
     Ok(Block::new(number(word)))
 }
 
-// Bytes, from two digits of either case each, the first byte first.
-pub fn parse_bytes(heap: Global, text: &str) -> Result<Vec<u8>, HexFault>
-    ensures { BytesRead (bytes_in text.now) result }
+/// Writes the bytes of a text to the front of a row, and answers how many they are.
+///
+/// Two digits of either case write a byte, the higher first, and the first byte comes first. The rest of the row stays as it was.
+/// A text is refused for its odd count of digits, then for the first place that is no digit, then for a row that is too short;
+/// after a refusal the row is as it was.
+pub fn parse_bytes(text: &str, bytes: &mut [u8]) -> Result<usize, HexFault>
+    ensures answer { result ≡ bytes_count text.now (length bytes.old) }
+    ensures bytes { WritesBytes text.now bytes.old bytes.new result }
 {
     let word = text.as_bytes();
     if word.len() % 2 != 0 {
         return Err(HexFault::WrongLength { digits: word.len() });
     }
     check_digits(word)?;
-    Ok(join_pairs(heap, word)?)
+    let needed = word.len() / 2;
+    if bytes.len() < needed {
+        return Err(HexFault::RowTooShort { needed });
+    }
+    join_pairs(word, bytes);
+    Ok(needed)
 }
 
 // The first place that holds no digit.
@@ -87,7 +87,7 @@ fn bad_place(word: &[u8]) -> Option<usize>
 
 // Refuses the first byte that is no digit. No `From`: a place is a fault only here.
 fn check_digits(word: &[u8]) -> Result<(), HexFault>
-    ensures { result ≡ unless_bad (first_bad word.now) tt }
+    ensures { result ≡ unless_bad (first_bad word.now) (Ok tt) }
 {
     match bad_place(word) {
         Some(at) => Err(HexFault::NotADigit { at }),
@@ -128,13 +128,13 @@ fn number(word: &[u8]) -> u128
     sum
 }
 
-// The bytes that pairs of digits write, the higher digit first.
-fn join_pairs(heap: Global, word: &[u8]) -> Result<Vec<u8>, AllocError>
-    ensures { IfOk result (λ v. v.items ≡ bytes_from word.now) }
+// Writes the byte of each pair of digits, the higher digit first, from the front of the row on.
+fn join_pairs(word: &[u8], bytes: &mut [u8])
+    requires { length word.now / 2 ≤ length bytes.old }
+    ensures { bytes.new ≡ bytes_from word.now ++ drop (length word.now / 2) bytes.old }
 {
     let (pairs, _) = word.as_chunks::<2>();
-    pairs
-        .iter()
-        .map(|[high, low]| 16 * value(*high) + value(*low))
-        .collect(heap)
+    for (place, [high, low]) in pairs.iter().enumerate() {
+        bytes[place] = 16 * value(*high) + value(*low);
+    }
 }

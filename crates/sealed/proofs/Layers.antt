@@ -1,13 +1,17 @@
 -- Blocks laid into an output, one after another.
-use Rattle.std.proofs.Common.{◌≡◌, ℕ, suc, ◌+◌, ◌-◌, ◌*◌, ◌/◌, ◌%◌, ◌<◌, ◌≤◌, min, List, [], ◌∷◌, ◌++◌, map, length, take, drop, replicate, Ok, sym, ap, ◌∙◌, ap₂, append_assoc, append-nil, arith, length-append}
+use Rattle.std.proofs.Common.{◌≡◌, ℕ, suc, ◌+◌, ◌-◌, ◌/◌, ◌%◌, ◌<◌, ◌≤◌, min, List, [], ◌∷◌, ◌++◌, map, length, take, drop, replicate, Ok, Err, Result, sym, ap, ◌∙◌, ap₂, append_assoc, append-nil, arith, length-append}
 use borrow.Rule.Slice.PartMut.{put_mid, same_len_mid}
 use Rattle.std.proofs.lemmas.List.{length-drop, length-take-le, length-replicate, length-map, drop-drop, take_all}
 use Rattle.std.proofs.lemmas.Slice.{take-put_mid}
 use Rattle.message.proofs.Cutting.{next_of}
 use Rattle.format.proofs.Pieces.{length_pieces, pieces_more}
 use Rattle.format.specs.Layout.{Content, blocks_for, front, check_of, block_bytes, content, contents, laid, pieces}
+use Rattle.format.specs.Verdict.{after}
 use Rattle.field.specs.Digits.{digits}
+use Rattle.field.specs.declared.kinds.Block.{Block}
+use Rattle.refusal.specs.declared.Refusal.{Refusal}
 use Rattle.sealed.specs.Writing.{room_answer}
+use Rattle.sealed.specs.declared.handed.Sealed.{Sealed}
 use Rattle.std.proofs.lemmas.Bool.Decides.{nat_tests}
 use Rattle.sealed.proofs.Numbers.{two_digits, four_digits}
 
@@ -107,12 +111,18 @@ whole_laid header body tag n k upto-body upto-end =
     ∙ ap (λ (j : ℕ). laid 0 hs ++ laid j (bs ++ last)) upto
     ∙ sym (laid_append 0 hs (bs ++ last))
 
--- ---- room for the file
-
-pub room_enough : (header body output n : ℕ) → Ok n ≡ room_answer header body output → 512 * blocks_for header body ≤ output
-room_enough header body output n done =
-    grind (arith, nat_tests, done)
+-- ---- what the lengths allow
 
 pub limits_kept : (header body output n : ℕ) → Ok n ≡ room_answer header body output → (header ≤ 65535) × (blocks_for header body ≤ 65536)
 limits_kept header body output n done =
     (grind (arith, nat_tests, done), grind (arith, nat_tests, done))
+
+-- what a message is sealed with has the count of its room, and its tag
+pub sealed_parts : (hash tag : Block) (r : Result ℕ Refusal) (s : Sealed) → Ok s ≡ after r (λ n. Ok record { blocks = n; hash = hash; tag = tag })
+    → (Ok s.blocks ≡ r) × (s.tag ≡ tag)
+sealed_parts hash tag (Ok n) s same =
+    let is : s ≡ record { blocks = n; hash = hash; tag = tag } = cc in
+    (ap (λ (x : Sealed). counted x.blocks) is, ap (λ (x : Sealed). x.tag) is) where
+      counted : ℕ → Result ℕ Refusal
+      counted k = Ok k
+sealed_parts hash tag (Err e) s same = cc

@@ -2,8 +2,11 @@
 ghost use Rattle.std.specs.Prelude.{◌≡◌, ◌+◌, ◌*◌, ◌/◌, ◌<◌, ◌≤◌, ◌++◌, map, length, take, drop};
 ghost use Rattle.format.specs.Layout.{block_bytes, content, laid, pieces};
 ghost use Rattle.format.specs.Kinds.{number_of};
+ghost use Rattle.sealed.specs.Writing.{file_of, HasRoom, StandsInFront};
 
+use field::Block;
 use format::{BLOCK_BYTES, CHECK_AT, DATA_AT, DATA_BYTES, Kind, block_check};
+use message::Message;
 
 // One block: prefix, data, zeros up to the check, and the check.
 // A slice, not `&mut [u8; 512]`: tried, and what `first_chunk_mut` hands back to the output did not prove in `put_block`.
@@ -24,7 +27,7 @@ fn fill_block(block: &mut [u8], number: u32, kind: Kind, data: &[u8])
 }
 
 // A block at its place in the output.
-pub(crate) fn put_block(output: &mut [u8], number: u32, kind: Kind, data: &[u8])
+fn put_block(output: &mut [u8], number: u32, kind: Kind, data: &[u8])
     requires room { 512 * (number + 1) ≤ length output.old }
     requires few { number < 65536 }
     requires fits { length «data».now ≤ 502 }
@@ -36,7 +39,7 @@ pub(crate) fn put_block(output: &mut [u8], number: u32, kind: Kind, data: &[u8])
 }
 
 // The blocks of a part, one for each piece, from a number on; the answer is the next number.
-pub(crate) fn put_part(output: &mut [u8], first: u32, kind: Kind, part: &[u8]) -> u32
+fn put_part(output: &mut [u8], first: u32, kind: Kind, part: &[u8]) -> u32
     requires room { 512 * (first + (length part.now + 501) / 502) ≤ length output.old }
     requires few { first + (length part.now + 501) / 502 ≤ 65536 }
     ensures next { result ≡ first + (length part.now + 501) / 502 }
@@ -47,4 +50,14 @@ pub(crate) fn put_part(output: &mut [u8], first: u32, kind: Kind, part: &[u8]) -
         put_block(output, first + k as u32, kind, piece);
     }
     first + part.len().div_ceil(DATA_BYTES) as u32
+}
+
+// The file of a message and its tag, at the front of the output: header blocks, body blocks and the end block.
+pub(crate) fn put_file(output: &mut [u8], message: Message, tag: Block)
+    requires { HasRoom message (length output.old) }
+    ensures { StandsInFront (file_of message.entry tag) output.old output.new }
+{
+    let next = put_part(output, 0, Kind::Header, message.header);
+    let next = put_part(output, next, Kind::Body, message.body);
+    put_block(output, next, Kind::End, &tag.to_bytes());
 }

@@ -3,17 +3,16 @@ ghost use Rattle.std.specs.Prelude.{◌≡◌, ◌++◌, length, drop, MatchResu
 ghost use Rattle.format.specs.Layout.{sealed};
 ghost use Rattle.format.specs.Verdict.{Reopens};
 ghost use Rattle.tag.specs.Tags.{Ran};
-ghost use Rattle.sealed.specs.Writing.{room_answer, seal_answer};
+ghost use Rattle.sealed.specs.Writing.{answer_for, room_answer, seal_answer, RanIfSealed};
 
 use crate::handed::{Handed, Sealed, Written};
-use crate::hashing::hash_parts;
-use crate::laying::{put_block, put_part};
+use crate::laying::put_file;
 use engine::Engine;
 use field::Block;
-use format::{BLOCK_BYTES, Kind, MOST_BLOCKS, blocks_for};
-use job::Closed;
-use message::{Message, Part};
+use format::{BLOCK_BYTES, MOST_BLOCKS, blocks_for};
+use message::{Digest, Message, Part};
 use refusal::Refusal;
+use tag::tag_message;
 
 // How many blocks the file has, where it may be written. Three lengths, and no struct of two: one answer is made of all.
 fn count_blocks(header: usize, body: usize, output: usize) -> Result<u32, Refusal>
@@ -32,6 +31,26 @@ fn count_blocks(header: usize, body: usize, output: usize) -> Result<u32, Refusa
     Ok(blocks as u32)
 }
 
+// Hashes a message, where its file fits an output of this many bytes. A refusal comes before the engine is touched.
+fn hash_for_file<E: Engine>(
+    engine: &mut E,
+    pad: Block,
+    message: Message,
+    room: usize,
+) -> Result<Sealed, Refusal>
+    ensures answer { result ≡ answer_for (E.subkey_of engine.old) pad message.entry room }
+    ensures engine { RanIfSealed E.Engine engine.old message.entry engine.new result }
+{
+    let count = count_blocks(message.header.len(), message.body.len(), room)?;
+    // The limits of a message are looked at again here and never refuse: a file holds less than they allow.
+    let Digest { hash, tag, .. } = tag_message(engine, pad, message)?;
+    Ok(Sealed {
+        blocks: count,
+        hash,
+        tag,
+    })
+}
+
 // Nothing is written, and the engine is not touched, where the answer is a refusal. The pad stays apart, as in a job.
 pub fn write_file<E: Engine>(
     engine: E,
@@ -44,23 +63,10 @@ pub fn write_file<E: Engine>(
     ensures reopens { OnOk result.answer (Reopens (E.subkey_of engine) pad message.entry.header.now message.entry.body.now) }
     ensures engine { MatchResult result.answer (λ _. Ran E.Engine engine message.entry.header.now message.entry.body.now result.engine) (λ _. result.engine ≡ engine) }
 {
-    let Message { header, body } = message;
-    // No `?`: it would not hand the engine back with the refusal.
-    let blocks = match count_blocks(header.len(), body.len(), output.len()) {
-        Ok(count) => count,
-        Err(refusal) => {
-            return Handed {
-                engine,
-                answer: Err(refusal),
-            };
-        }
-    };
-    let Closed { engine, hash, tag } = hash_parts(engine, pad, message);
-    let next = put_part(output, 0, Kind::Header, header);
-    let next = put_part(output, next, Kind::Body, body);
-    put_block(output, next, Kind::End, &tag.to_bytes());
-    Handed {
-        engine,
-        answer: Ok(Sealed { blocks, hash, tag }),
+    let mut engine = engine;
+    let answer = hash_for_file(&mut engine, pad, message, output.len());
+    if let Ok(sealed) = answer {
+        put_file(output, message, sealed.tag);
     }
+    Handed { engine, answer }
 }

@@ -1,5 +1,6 @@
 // Scripts of a job: a call to a line.
 use crate::stop::{BadWord, Stop};
+use crate::words::row_for;
 use hexadecimal::parse_bytes;
 use job::Call;
 use std::alloc::AllocError;
@@ -78,6 +79,12 @@ enum Line {
     Close,
 }
 
+fn piece_of_digits(rt: &HostRuntime, word: &str) -> Result<Vec<u8>, LineFault> {
+    let mut bytes = row_for(rt, word)?;
+    parse_bytes(word, &mut bytes).map_err(BadWord::Bytes)?;
+    Ok(bytes)
+}
+
 // The bytes of the words that follow a feed's name, joined: hexadecimal digits, or `@` and the name of a file.
 fn piece_words(rt: &HostRuntime, words: &str) -> Result<Vec<u8>, LineFault> {
     let mut piece = Vec::new(rt.alloc());
@@ -85,7 +92,7 @@ fn piece_words(rt: &HostRuntime, words: &str) -> Result<Vec<u8>, LineFault> {
     for word in words.split_whitespace() {
         let bytes = match word.strip_prefix('@') {
             Some(name) => fs::read(rt, name)?,
-            None => parse_bytes(rt.alloc(), word).map_err(BadWord::Bytes)?,
+            None => piece_of_digits(rt, word)?,
         };
         piece.extend_from_slice(&bytes)?;
     }

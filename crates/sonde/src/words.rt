@@ -2,6 +2,7 @@
 use crate::stop::{Argument, BadWord, Stop};
 use field::Block;
 use hexadecimal::{parse_block, parse_bytes};
+use std::alloc::AllocError;
 use std::io::Read;
 use std::{fmt, fs, io};
 
@@ -19,6 +20,11 @@ fn read_input(rt: &HostRuntime) -> io::Result<Vec<u8>> {
     Ok(bytes)
 }
 
+// A row with room for the bytes of a word of digits, two digits to a byte.
+pub(crate) fn row_for(rt: &HostRuntime, word: &str) -> Result<Vec<u8>, AllocError> {
+    vec![in rt.alloc(); 0u8; word.len() / 2]
+}
+
 impl Argument {
     // A word of 32 digits.
     pub(crate) fn parse_block(self, word: &str) -> Result<Block, Stop> {
@@ -30,10 +36,12 @@ impl Argument {
 
     // A word of any even count of digits. Not one with the above: the fault says which of the two was wanted.
     pub(crate) fn parse_bytes(self, rt: &HostRuntime, word: &str) -> Result<Vec<u8>, Stop> {
-        parse_bytes(rt.alloc(), word).map_err(|fault| Stop::BadHex {
+        let mut bytes = row_for(rt, word)?;
+        parse_bytes(word, &mut bytes).map_err(|fault| Stop::BadHex {
             argument: self,
             word: BadWord::Bytes(fault),
-        })
+        })?;
+        Ok(bytes)
     }
 
     // A number in decimal digits.

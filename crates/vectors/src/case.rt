@@ -22,7 +22,9 @@ fn read_part(heap: Global, word: &str) -> Result<Vec<u8>, Fault> {
     if word == "-" {
         return Ok(Vec::new(heap));
     }
-    Ok(parse_bytes(heap, word)?)
+    let mut bytes = vec![in heap; 0u8; word.len() / 2]?;
+    parse_bytes(word, &mut bytes)?;
+    Ok(bytes)
 }
 
 impl Case {

@@ -1,47 +1,48 @@
-use Rattle.std.proofs.Common.{◌≡◌, ℕ, ◌+◌, ◌*◌, ◌≤◌, List, ◌++◌, map, length, take, drop, sym, ap, ◌∙◌, ap₂, arith}
-use Rattle.std.proofs.lemmas.List.{length-take-le, take-append-drop}
-use Rattle.field.specs.Bytes.{bytes_of}
+use Rattle.std.proofs.Common.{◌≡◌, ℕ, List, ◌++◌, length, drop, Result, sym, ◌∙◌, subst, MatchResult, OnOk}
 use Rattle.field.specs.declared.kinds.Block.{Block}
-use Rattle.message.specs.Hash.{tag_of}
-use Rattle.format.specs.Layout.{block_bytes, content, contents, laid, pieces, sealed}
+use Rattle.message.specs.Hash.{hash_of, tag_of}
+use Rattle.format.specs.Layout.{sealed}
+use Rattle.format.specs.Verdict.{Reopens}
 use Rattle.format.proofs.Laws.{reopens}
-use Rattle.sealed.proofs.Layers.{drop_further, room_enough, whole_laid, limits_kept}
+use Rattle.refusal.specs.declared.Refusal.{Refusal}
+use Rattle.sealed.specs.declared.handed.Sealed.{Sealed}
+use Rattle.sealed.specs.Writing.{file_of, room_answer}
+use Rattle.sealed.proofs.Layers.{limits_kept, sealed_parts}
 use Rattle.sealed.proofs.writing.write_file.Goals as goal
+use Rattle.sealed.proofs.writing.write_file.Goals.{in-Ok, in_default}
 
 pub returns-clause-output : goal.returns-clause-output
 unfolding sealed
 returns-clause-output g c =
-    let h : Block = g.E.Engine.subkey_of c.args.engine in
+    let subkey : Block = g.E.Engine.subkey_of c.args.engine in
     let pad : Block = c.args.pad in
     let header : List ℕ = c.args.message.header.now in
     let body : List ℕ = c.args.message.body.now in
     let entry : List ℕ = c.args.output.now in
-    let o₁ : List ℕ = c.put_part-next.new.output in
-    let o₂ : List ℕ = c.put_part-next-2.new.output in
-    let o₃ : List ℕ = c.put_block.new.output in
-    let n : ℕ = c.put_part-next.result in
-    let k : ℕ = c.put_part-next-2.result in
-    let end : ℕ = 512 * (k + 1) in
-    let first = c.put_part-next.ensures in
-    let second = c.put_part-next-2.ensures in
-    let third = c.put_block.ensures in
-    let ran = c.hash_parts-engine.ensures in
-    let file : List ℕ = laid 0 (contents header body (bytes_of (tag_of h pad header body))) in
-    let written : take end o₃ ≡ file =
-    third.front
-    ∙ ap₂ (λ (xs ys : List ℕ). xs ++ block_bytes k (content 3 ys)) (second.front ∙ ap (λ (xs : List ℕ). xs ++ laid n (map (content 2) (pieces body))) first.front) (c.to_bytes.ensures.value ∙ ap bytes_of ran.tag)
-    ∙ whole_laid header body (bytes_of (tag_of h pad header body)) n k first.next second.next in
-    let left : drop end o₃ ≡ drop end entry =
-    third.back ∙ drop_further (512 * k) end o₂ o₁ (omega arith) second.back ∙ drop_further (512 * n) end o₁ entry (omega (arith, second.next)) first.back in
-    let kept : length o₃ ≡ length entry = c.put_block.auto.output ∙ c.put_part-next-2.auto.output ∙ c.put_part-next.auto.output in
-    let enough = room_enough (length header) (length body) (length entry) c.in-Ok.count c.in-Ok.ensures in
-    let room : end ≤ length o₃ = omega (arith, kept, enough, first.next, second.next) in
-    let size : end ≡ length file = sym (length-take-le end o₃ room) ∙ ap length written in
-    sym (take-append-drop end o₃) ∙ ap₂ (λ (xs ys : List ℕ). xs ++ ys) written (left ∙ ap (λ (j : ℕ). drop j entry) size)
+    let file : List ℕ = sealed subkey pad header body in
+    let Written = λ (a : Result Sealed Refusal). MatchResult a (λ _. c.match-answer.output ≡ file ++ drop (length file) entry) (λ _. c.match-answer.output ≡ entry) in
+    elim c.match-answer.branch [
+      | in-Ok w ↦
+          (let parts = sealed_parts (hash_of subkey header body) (tag_of subkey pad header body) (room_answer (length header) (length body) (length entry))
+          w.in-Ok.sealed (sym w.in-Ok.is ∙ c.hash_for_file-answer.ensures.answer) in
+          subst Written (sym w.answer-is)
+          (w.output-is ∙ subst (λ (t : Block). w.put_file.new.output ≡ file_of c.args.message t ++ drop (length (file_of c.args.message t)) entry) parts.1 w.put_file.ensures))
+      | in_default w ↦ subst Written (sym (w.answer-is ∙ w.in_default.is)) w.output-is
+    ]
 
 pub returns-clause-reopens : goal.returns-clause-reopens
 returns-clause-reopens g c =
+    let subkey : Block = g.E.Engine.subkey_of c.args.engine in
+    let pad : Block = c.args.pad in
     let header : List ℕ = c.args.message.header.now in
     let body : List ℕ = c.args.message.body.now in
-    let limits = limits_kept (length header) (length body) (length c.args.output.now) c.in-Ok.count c.in-Ok.ensures in
-    reopens (g.E.Engine.subkey_of c.args.engine) c.args.pad header body limits.0 limits.1
+    let room : ℕ = length c.args.output.now in
+    let Opened = λ (a : Result Sealed Refusal). OnOk a (Reopens subkey pad header body) in
+    elim c.match-answer.branch [
+      | in-Ok w ↦
+          (let parts = sealed_parts (hash_of subkey header body) (tag_of subkey pad header body) (room_answer (length header) (length body) room)
+          w.in-Ok.sealed (sym w.in-Ok.is ∙ c.hash_for_file-answer.ensures.answer) in
+          let limits = limits_kept (length header) (length body) room _ parts.0 in
+          subst Opened (sym w.answer-is) (reopens subkey pad header body limits.0 limits.1))
+      | in_default w ↦ subst Opened (sym (w.answer-is ∙ w.in_default.is)) tt
+    ]
