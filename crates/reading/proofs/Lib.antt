@@ -1,0 +1,5 @@
+pub mod Numbers
+pub mod Places
+pub mod Scans
+pub mod Gathering
+pub mod FoldedScan
