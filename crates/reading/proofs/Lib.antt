@@ -1,5 +1,8 @@
 pub mod Numbers
 pub mod Places
 pub mod Scans
-pub mod Gathering
+pub mod Joining
 pub mod FoldedScan
+pub mod InOrder
+pub mod Pieces
+pub mod Answering

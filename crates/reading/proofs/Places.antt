@@ -2,7 +2,7 @@
 use Rattle.std.proofs.Common.{◌≡◌, ℕ, suc, ◌+◌, ◌-◌, ◌*◌, ◌%◌, ◌<◌, ◌≤◌, Bool, true, false, ◌&&◌, eqb, leb, List, length, take, drop, None, sym, refl, ap, ◌∙◌, arith}
 use Rattle.std.proofs.lemmas.Bool.{ne_eqb}
 use Rattle.std.proofs.lemmas.Bool.Decides.{nat_tests}
-use Rattle.std.proofs.lemmas.List.{drop-take, length-drop, length-take-le}
+use Rattle.std.proofs.lemmas.List.{drop-take, drop-drop, length-drop, length-take-le}
 use Rattle.format.specs.Faults.{Previous, kind_in, used_in, is_used_fit, is_all_zero, is_form_good, is_size_good, block_at, previous_at, fault_of}
 use Rattle.format.specs.Kinds.{number_of}
 use Rattle.format.specs.declared.kind.Kind.{Kind}
@@ -10,7 +10,7 @@ use Rattle.format.specs.declared.kind.Kind.TheVariants.{Header, Body, End}
 use Rattle.format.proofs.BlockFields.{form_parts, used_limit}
 use Rattle.format.proofs.Sequences.{not_past_end}
 use Rattle.format.proofs.Scans.{faultless}
-use Rattle.reading.specs.Reading.{prefix_in, wrong_at}
+use Rattle.reading.specs.Reading.{IsPrefixOf, wrong_at}
 use Rattle.reading.specs.declared.prefix.Prefix.{Prefix}
 
 -- ---- what tests tell
@@ -25,10 +25,12 @@ sized file good = record { whole = grind (arith, nat_tests); some = grind (arith
 
 -- ---- a block of good form
 
-pub fill_is : (b : List ℕ) (used : ℕ) → used ≤ 502 → take (508 - (6 + used)) (drop (6 + used) b) ≡ drop (6 + used) (take 508 b)
-fill_is b used within =
-    let e : 6 + used + (508 - (6 + used)) ≡ 508 = omega arith in
-    sym (drop-take (6 + used) (508 - (6 + used)) b) ∙ ap (λ (n : ℕ). drop (6 + used) (take n b)) e
+-- what follows the prefix, past the data and up to the check
+fill_is : (b rest : List ℕ) (used : ℕ) → rest ≡ drop 6 b → used ≤ 502 → take (502 - used) (drop used rest) ≡ drop (6 + used) (take 508 b)
+fill_is b rest used follows within =
+    let past : drop used rest ≡ drop (6 + used) b = ap (drop used) follows ∙ drop-drop used 6 b in
+    let e : 6 + used + (502 - used) ≡ 508 = omega arith in
+    ap (take (502 - used)) past ∙ sym (drop-take (6 + used) (502 - used) b) ∙ ap (λ (n : ℕ). drop (6 + used) (take n b)) e
 
 -- a kind's number is 1 to 3
 in_range : (k : Kind) → (leb 1 (number_of k) ≡ true) × (leb (number_of k) 3 ≡ true)
@@ -36,23 +38,24 @@ in_range Header = (refl, refl)
 in_range Body = (refl, refl)
 in_range End = (refl, refl)
 
-module _ (b : List ℕ) (k : Kind) (p : Prefix) (kind : number_of k ≡ p.kind) (named : p ≡ prefix_in b) where
+module _ (b : List ℕ) (k : Kind) (p : Prefix) (kind : number_of k ≡ p.kind) (named : IsPrefixOf b p) where
   abbrev zeros : Bool
   zeros = is_all_zero (drop (6 + p.used) (take 508 b))
 
   abbrev slice : List ℕ
-  slice = take (508 - (6 + p.used)) (drop (6 + p.used) b)
+  slice = take (502 - p.used) (drop p.used p.rest.now)
 
   -- where the kind is one of three, reserve, used length and fill decide
   form_is : is_form_good b ≡ (eqb p.reserve 0 && (is_used_fit (number_of k) p.used && zeros))
   form_is =
-      let said : prefix_in b ≡ p = sym named in
-      let number : kind_in b ≡ number_of k = sym (kind ∙ ap (λ (q : Prefix). q.kind) named) in
-      (λ i. leb 1 (number i) && (leb (number i) 3 && (eqb (said i).reserve 0 && (is_used_fit (number i) (said i).used && is_all_zero (drop (6 + (said i).used) (take 508 b))))))
+      let number : kind_in b ≡ number_of k = sym (kind ∙ named.kind) in
+      let reserve = sym named.reserve in
+      let used = sym named.used in
+      (λ i. leb 1 (number i) && (leb (number i) 3 && (eqb (reserve i) 0 && (is_used_fit (number i) (used i) && is_all_zero (drop (6 + used i) (take 508 b))))))
       ∙ grind (arith, nat_tests, (in_range k).0, (in_range k).1)
 
   fill_read : is_used_fit (number_of k) p.used ≡ true → zeros ≡ is_all_zero slice
-  fill_read fits = ap is_all_zero (sym (fill_is b p.used (used_limit (number_of k) p.used fits)))
+  fill_read fits = ap is_all_zero (sym (fill_is b p.rest.now p.used named.rest (used_limit (number_of k) p.used fits)))
 
   pub bad_reserve : (p.reserve ≡ 0 → ⊥) → is_form_good b ≡ false
   bad_reserve some = grind (arith, nat_tests, form_is)

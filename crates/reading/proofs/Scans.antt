@@ -1,11 +1,10 @@
 -- The blocks of a file, one after another.
-use Rattle.std.proofs.Common.{◌≡◌, ℕ, zero, suc, ◌+◌, ◌-◌, ◌*◌, ◌/◌, ◌<◌, ◌≤◌, true, cond, eqb, List, [], ◌∷◌, ◌++◌, length, get_or, take, drop, take-append-drop, add-one, Some, None, Err, sym, refl, ap, ◌∙◌, append_assoc, append-nil, zero-add, arith, length-append}
+use Rattle.std.proofs.Common.{◌≡◌, ℕ, zero, suc, ◌+◌, ◌-◌, ◌*◌, ◌/◌, ◌<◌, ◌≤◌, true, cond, eqb, List, [], ◌∷◌, ◌++◌, length, get_or, take, drop, take-append-drop, add-one, Some, None, Err, sym, refl, subst, ap, ◌∙◌, append_assoc, append-nil, zero-add, arith, length-append}
 use Rattle.std.proofs.lemmas.Bool.Decides.{nat_tests}
-use Rattle.std.proofs.lemmas.List.{drop-drop, drop_more, take_more, take_rest, length-drop, length-take, length-take-le}
+use Rattle.std.proofs.lemmas.List.{drop-drop, drop_more, take_all, take_more, take_rest, length-drop, length-take, length-take-le}
 use Rattle.std.specs.Simd.{first_chunks}
 use Rattle.refusal.specs.declared.Refusal.{Refusal}
 use Rattle.format.specs.Faults.{Previous, previous, kind_in, used_in, data_in, is_size_good, rows_of, block_at, blocks_of, on_fault, fault_of, scanned, data_of}
-use Rattle.reading.specs.Scanning.{data_of_kind}
 use Rattle.reading.proofs.Places.{block_size, sized}
 
 -- ---- rows
@@ -51,6 +50,10 @@ chunk_size file bs k d cut less =
 
 -- ---- data
 
+-- the data of a block of this kind, and none of another
+abbrev pub data_of_kind : ℕ → List ℕ → List ℕ
+data_of_kind kind b = cond (eqb (kind_in b) kind) (data_in b) []
+
 data_cons : (kind : ℕ) (b : List ℕ) (bs : List (List ℕ)) → data_of kind (b ∷ bs) ≡ data_of_kind kind b ++ data_of kind bs
 data_cons kind b bs = grind (arith, nat_tests)
 
@@ -94,13 +97,18 @@ data_within kind (suc n) file =
     let both = ap length (data_cons kind (take 512 file) (rows_of n (drop 512 file))) ∙ length-append (data_of_kind kind (take 512 file)) (data_of kind (rows_of n (drop 512 file))) in
     omega (arith, both, data_short kind file, data_within kind n (drop 512 file))
 
--- the data of block k stay within the limit of all, and come next
-pub data_next : (kind k limit : ℕ) (bs : List (List ℕ)) (d piece : List ℕ) → k < length bs → length (data_of kind bs) ≤ limit → piece ≡ data_of_kind kind (get_or bs k d)
-    → (length (data_of kind (take k bs)) + length piece ≤ limit) × (data_of kind (take k bs) ++ piece ≡ data_of kind (take (k + 1) bs))
-data_next kind k limit bs d piece less within read =
-    let taken : List ℕ = data_of kind (take k bs) in
-    let joins : taken ++ piece ≡ data_of kind (take (k + 1) bs) = ap (λ (xs : List ℕ). taken ++ xs) read ∙ sym (data_on kind k bs d less) in
-    (omega (arith, ap length joins, length-append taken piece, data_upto kind (k + 1) bs, within), joins)
+-- blocks of 512 bytes
+abbrev pub AllWhole : List (List ℕ) → Type 0
+AllWhole bs = (k : ℕ) → k < length bs → length (get_or bs k []) ≡ 512
+
+-- blocks have no more data than bytes
+pub data_room : (kind : ℕ) (bs : List (List ℕ)) → AllWhole bs → length (data_of kind bs) ≤ 512 * length bs
+data_room kind [] whole = omega arith
+data_room kind (b ∷ bs) whole =
+    let size : length b ≡ 512 = whole 0 (omega arith) in
+    let here : length (data_of_kind kind b) ≤ 512 = subst (λ (c : List ℕ). length (data_of_kind kind c) ≤ 512) (take_all 512 b (omega (arith, size))) (data_short kind b) in
+    let both = ap length (data_cons kind b bs) ∙ length-append (data_of_kind kind b) (data_of kind bs) in
+    omega (arith, both, here, data_room kind bs (λ k less. whole (suc k) (omega (arith, less))))
 
 -- all data is within the file
 pub data_in_file : (kind : ℕ) (file : List ℕ) → length (data_of kind (blocks_of file)) ≤ length file

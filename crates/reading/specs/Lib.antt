@@ -1,4 +1,4 @@
 pub mod Shapes
 pub mod Reading
 pub mod Scanning
-pub mod Collecting
+pub mod Sections

@@ -1,8 +1,8 @@
 -- What a reader answers.
-use Rattle.std.specs.Prelude.{◌≡◌, ℕ, suc, true, false, ◌*◌, ◌≤◌, cond, List, length, take, drop, Some, None, Ok, Err, Option, Result, ◌==◌}
+use Rattle.std.specs.Prelude.{◌≡◌, ℕ, suc, true, false, ◌*◌, ◌≤◌, cond, List, [], ◌++◌, length, take, drop, Some, None, Ok, Err, Option, Result, ◌==◌}
 use Rattle.refusal.specs.declared.Refusal.{Refusal}
 use Rattle.refusal.specs.declared.Refusal.TheVariants.{FileSize, NoEnd}
-use Rattle.format.specs.Faults.{Previous, number_in, kind_in, reserve_in, used_in, data_in, is_form_good, is_size_good, previous, block_at, previous_at, fault_of}
+use Rattle.format.specs.Faults.{Previous, number_in, kind_in, reserve_in, used_in, data_in, is_form_good, is_size_good, previous, block_at, previous_at, fault_of, rows_of, blocks_of, data_of}
 use Rattle.reading.specs.Shapes.{shown}
 use Rattle.reading.specs.declared.prefix.Prefix.{Prefix}
 use Rattle.reading.specs.declared.record.Item.{Item}
@@ -10,8 +10,13 @@ use Rattle.reading.specs.declared.record.Record.{Record}
 use Rattle.reading.specs.declared.record.Record.TheVariants.{Header, Body, End}
 use Rattle.reading.specs.declared.shape.Shape.{Shape}
 
-abbrev pub prefix_in : List ℕ → Prefix
-prefix_in b = record { number = number_in b; kind = kind_in b; reserve = reserve_in b; used = used_in b }
+-- what the first six bytes of a block say, and the bytes that follow them
+pub record IsPrefixOf (block : List ℕ) (prefix : Prefix) : Type 0 where
+  pub number : prefix.number ≡ number_in block
+  pub kind : prefix.kind ≡ kind_in block
+  pub reserve : prefix.reserve ≡ reserve_in block
+  pub used : prefix.used ≡ used_in block
+  pub rest : prefix.rest.now ≡ drop 6 block
 
 -- the shape that a block has, or none where its form is wrong
 abbrev pub Formed : List ℕ → Option Shape → Type 0
@@ -59,3 +64,18 @@ abbrev pub Read : List ℕ → ℕ → ℕ → Result (Option Item) Refusal → 
 Read file k t (Ok None) = (wrong_at file k ≡ None) × (512 * k ≡ length file) × (t ≡ k)
 Read file k t (Ok (Some i)) = (wrong_at file k ≡ None) × (512 * suc k ≤ length file) × Taken file k i × (t ≡ suc k)
 Read file k t (Err e) = (wrong_at file k ≡ Some e) × (t ≡ k)
+
+-- what a record brings to the part of a kind
+abbrev pub brought : ℕ → Record → List ℕ
+brought kind r = cond (kind_of r == kind) (data_held r) []
+
+-- the data of a kind in the first n blocks of a file
+abbrev pub data_before : ℕ → ℕ → List ℕ → List ℕ
+data_before kind n file = data_of kind (rows_of n file)
+
+-- One call of a reader that has read k blocks: the data of each part in one block more is that in k blocks joined with what the record
+-- brings; and where there is no record, the first k blocks are all that the file has. A refusal says nothing of the data.
+abbrev pub Joins : List ℕ → ℕ → Result (Option Item) Refusal → Type 0
+Joins file k (Ok None) = rows_of k file ≡ blocks_of file
+Joins file k (Ok (Some i)) = (data_before 1 (suc k) file ≡ data_before 1 k file ++ brought 1 i.record) × (data_before 2 (suc k) file ≡ data_before 2 k file ++ brought 2 i.record)
+Joins file k (Err e) = Unit {0}

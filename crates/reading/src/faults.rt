@@ -1,13 +1,13 @@
 // What can be wrong with a file's size, and with a block.
-ghost use Rattle.std.specs.Prelude.{◌≡◌, nat_eq};
+ghost use Rattle.std.specs.Prelude.{◌≡◌, ℕ, List, length, nat_eq};
 ghost use Rattle.format.specs.Faults.{is_all_zero, check_in, is_order_good, is_size_good, is_used_fit};
 ghost use Rattle.format.specs.Kinds.{number_of};
-ghost use Rattle.reading.specs.Reading.{Checked, Formed, prefix_in};
+ghost use Rattle.reading.specs.Reading.{Checked, Formed, IsPrefixOf};
 ghost use Rattle.reading.specs.Shapes.{previous_of, shown};
 
-use crate::prefix::{Prefix, read_prefix};
+use crate::prefix::Prefix;
 use crate::shape::Shape;
-use format::{BLOCK_BYTES, CHECK_AT, DATA_AT, DATA_BYTES, Kind, LARGEST_FILE, block_check};
+use format::{BLOCK_BYTES, CHECK_AT, DATA_BYTES, Kind, LARGEST_FILE, block_check};
 use refusal::Refusal;
 
 pub(crate) fn size_good(file: &[u8]) -> bool
@@ -50,16 +50,13 @@ impl Shape {
 }
 
 // The shape of a block of good form, and none of another.
-fn shape_of(block: &[u8; BLOCK_BYTES], prefix: Prefix) -> Option<Shape>
-    requires { prefix ≡ prefix_in block.now }
-    ensures { Formed block.now result }
+fn shape_of(prefix: Prefix) -> Option<Shape>
+    requires whole { length prefix.rest.now ≡ 506 }
+    ensures { (block : List ℕ) → IsPrefixOf block prefix.entry → Formed block result }
 {
     let kind = Kind::try_from(prefix.kind).ok()?;
     let used = prefix.used;
-    if prefix.reserve != 0
-        || !used_fits(kind, used)
-        || !all_zero(&block[DATA_AT + used..CHECK_AT])
-    {
+    if prefix.reserve != 0 || !used_fits(kind, used) || !all_zero(&prefix.rest[used..DATA_BYTES]) {
         return None;
     }
     Some(Shape { kind, used })
@@ -81,14 +78,14 @@ pub(crate) fn check_block(
 ) -> Result<Shape, Refusal>
     ensures { Checked place (previous_of before) block.now result }
 {
-    let prefix = read_prefix(block);
+    let prefix = Prefix::read(block);
     if stored_check(block) != block_check(&block[..CHECK_AT]) {
         return Err(Refusal::WrongCheck { block: place });
     }
     if prefix.number != place {
         return Err(Refusal::WrongNumber { block: place });
     }
-    let Some(shape) = shape_of(block, prefix) else {
+    let Some(shape) = shape_of(prefix) else {
         return Err(Refusal::WrongForm { block: place });
     };
     if !before.is_none_or(|last| last.may_precede(shape.kind)) {

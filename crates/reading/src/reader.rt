@@ -3,14 +3,14 @@
 ghost use Rattle.std.specs.Prelude.{◌≡◌, ◌*◌, ◌≤◌, length, take};
 ghost use Rattle.format.specs.Faults.{previous, previous_at};
 ghost use Rattle.format.specs.Kinds.{number_of};
-ghost use Rattle.reading.specs.Collecting.{Joins};
-ghost use Rattle.reading.specs.Reading.{Parsed, Read, data_held, kind_of};
+ghost use Rattle.reading.specs.Reading.{Joins, Parsed, Read, data_held, kind_of};
 ghost use Rattle.reading.specs.Shapes.{previous_of, shown};
 
 use crate::faults::{check_block, size_good};
+use crate::prefix::Prefix;
 use crate::record::{Item, Record};
 use crate::shape::Shape;
-use format::{BLOCK_BYTES, DATA_AT, Kind};
+use format::{BLOCK_BYTES, Kind};
 use refusal::Refusal;
 
 #[derive(Drop)]
@@ -44,9 +44,10 @@ fn parse<'a>(left: &'a [u8], shape: Shape) -> (Record<'a>, &'a [u8])
     requires shape { shown shape ≡ previous (take 512 left.now) }
     ensures { Parsed left.now result.0 result.1.now }
 {
-    let (block, rest) = left.split_at(BLOCK_BYTES);
-    let bytes = &block[DATA_AT..DATA_AT + shape.used];
-    (record_of(shape.kind, bytes), rest)
+    let Some((block, rest)) = left.split_first_chunk::<BLOCK_BYTES>() else {
+        unreachable!()
+    };
+    (record_of(shape.kind, Prefix::read(block).data()), rest)
 }
 
 impl<'a> Reader<'a> {

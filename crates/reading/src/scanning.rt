@@ -1,50 +1,80 @@
-// A file gone through block by block, before anything is hashed.
-ghost use Rattle.std.specs.Prelude.{◌≡◌, ◌≤◌, true};
-ghost use Rattle.format.specs.Faults.{is_size_good};
-ghost use Rattle.reading.specs.Scanning.{Scanned, first_pass_answer, scan_after};
+// A file gone through block by block.
+ghost use Rattle.std.specs.Prelude.{◌≡◌, ◌≤◌, length, nat_eq};
+ghost use Rattle.reading.specs.Scanning.{Scanned, scan_after, tally_with};
+ghost use Rattle.reading.specs.Shapes.{previous_of};
 
-use crate::faults::{check_block, size_good};
+use crate::faults::check_block;
 use crate::shape::Shape;
-use format::{BLOCK_BYTES, Kind, Lengths};
-use message::Part;
+use format::{BLOCK_BYTES, Kind};
 use refusal::Refusal;
 
-// The last block, and how many bytes of data the blocks of each part have. No `Lengths` yet: those are of a file that is accepted.
+/// How much of a part was gone through.
+#[derive(Clone, Copy)]
+pub(crate) struct Tally {
+    pub(crate) blocks: usize,
+    // How many bytes of data they have.
+    pub(crate) bytes: u64,
+}
+
+impl Tally {
+    fn add(&mut self, used: usize)
+        requires blocks { self.old.blocks ≤ 65536 }
+        requires bytes { self.old.bytes ≤ 33554432 }
+        requires used { used ≤ 502 }
+        ensures { self.new ≡ tally_with self.old used }
+    {
+        self.blocks += 1;
+        self.bytes += used as u64;
+    }
+}
+
+/// The last block, and what was gone through of both parts. The end block belongs to neither.
 #[derive(Clone, Copy)]
 pub(crate) struct Scan {
     pub(crate) last: Option<Shape>,
-    pub(crate) header: u64,
-    pub(crate) body: u64,
+    pub(crate) header: Tally,
+    pub(crate) body: Tally,
 }
 
 impl Scan {
     fn add(&mut self, block: Shape)
-        requires header { self.old.header ≤ 33554432 }
-        requires body { self.old.body ≤ 33554432 }
+        requires header_blocks { self.old.header.blocks ≤ 65536 }
+        requires header_bytes { self.old.header.bytes ≤ 33554432 }
+        requires body_blocks { self.old.body.blocks ≤ 65536 }
+        requires body_bytes { self.old.body.bytes ≤ 33554432 }
         ensures { self.new ≡ scan_after self.old block }
     {
         self.last = Some(block);
-        let used = block.used as u64;
         // A plain match: which kind it is shows only here.
         match block.kind {
-            Kind::Header => self.header += used,
-            Kind::Body => self.body += used,
+            Kind::Header => self.header.add(block.used),
+            Kind::Body => self.body.add(block.used),
             Kind::End => {}
         }
     }
+
+    /// Whether the last block is an end block.
+    pub(crate) fn has_end(self) -> bool
+        ensures { result ≡ nat_eq (previous_of self.last).kind 3 }
+    {
+        self.last.is_some_and(Shape::is_end)
+    }
 }
 
-// The first fault of all blocks, or what they say.
-fn scan_blocks(file: &[u8]) -> Result<Scan, Refusal>
-    requires { is_size_good file.now ≡ true }
-    ensures { Scanned file.now result }
+/// What all blocks say, or the first fault.
+pub(crate) fn scan_blocks(blocks: &[[u8; BLOCK_BYTES]]) -> Result<Scan, Refusal>
+    requires { length blocks.now ≤ 65536 }
+    ensures { Scanned blocks.now result }
 {
+    let none = Tally {
+        blocks: 0,
+        bytes: 0,
+    };
     let start = Scan {
         last: None,
-        header: 0,
-        body: 0,
+        header: none,
+        body: none,
     };
-    let (blocks, _rest) = file.as_chunks::<BLOCK_BYTES>();
     blocks
         .iter()
         .enumerate()
@@ -53,26 +83,4 @@ fn scan_blocks(file: &[u8]) -> Result<Scan, Refusal>
             scan.add(shape);
             Ok(scan)
         })
-}
-
-// All that can be said of a file without its key.
-pub fn first_pass(file: &[u8]) -> Result<Lengths, Refusal>
-    ensures { result ≡ first_pass_answer file.now }
-{
-    if !size_good(file) {
-        return Err(Refusal::FileSize);
-    }
-    let scan = scan_blocks(file)?;
-    if !scan.last.is_some_and(Shape::is_end) {
-        return Err(Refusal::NoEnd {
-            blocks: (file.len() / BLOCK_BYTES) as u32,
-        });
-    }
-    if scan.header > Part::Header.limit() {
-        return Err(Part::Header.too_long());
-    }
-    Ok(Lengths {
-        header: scan.header,
-        body: scan.body,
-    })
 }

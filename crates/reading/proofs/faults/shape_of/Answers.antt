@@ -1,6 +1,5 @@
-use Rattle.std.proofs.Common.{◌≡◌, ℕ, Result, Ok, Err, Some, sym, ap, ◌∙◌}
+use Rattle.std.proofs.Common.{◌≡◌, ℕ, Result, Ok, Err, Some, sym, ◌∙◌}
 use Rattle.std.specs.Result.{result_ok}
-use Rattle.format.specs.Faults.{used_in, kind_in}
 use Rattle.format.specs.Kinds.{Names, number_of}
 use Rattle.format.specs.declared.kind.Kind.{Kind}
 use Rattle.format.specs.declared.kind.NoKind.{NoKind}
@@ -15,12 +14,10 @@ known n (Ok k) kind is same = cc
 known n (Err e) kind is same = cc
 
 pub returns-then-prefix-ne0 : goal.returns-then-prefix-ne0
-returns-then-prefix-ne0 c =
-    let b = c.args.block.now in
+returns-then-prefix-ne0 c b named =
     let kind = c.in_ok-kind.kind in
     let p : Prefix = c.args.prefix in
-    let number = known c.args.prefix.kind c.try_from.result kind c.try_from.ensures c.in_ok-kind.ensures.value in
-    let named = c.requires in
+    let number = known p.kind c.try_from.result kind c.try_from.ensures c.in_ok-kind.ensures.value in
     elim c.then-prefix-ne0.branch [
       | then-prefix-ne0-via-then-prefix-ne0 w ↦ bad_reserve b kind p number named w.if-prefix-ne0.true
       | then-prefix-ne0-via-else-prefix-ne0+then-not-used_fits w ↦ bad_used b kind p number named (sym w.if-not-used_fits.ensures)
@@ -29,13 +26,10 @@ returns-then-prefix-ne0 c =
     ]
 
 pub returns : goal.returns
-returns c =
-    let b = c.args.block.now in
+returns c b named =
     let p : Prefix = c.args.prefix in
-    let named = c.requires in
-    let number = known p.kind c.try_from.result c.in_ok-kind.kind c.try_from.ensures c.in_ok-kind.ensures.value in
-    let kind : number_of c.in_ok-kind.kind ≡ kind_in b = number ∙ ap (λ (q : Prefix). q.kind) named in
-    let used : p.used ≡ used_in b = ap (λ (q : Prefix). q.used) named in (
-      good_form b c.in_ok-kind.kind p number named c.if-prefix-ne0.false (sym c.if-not-used_fits.ensures) (sym c.if-not-all_zero.ensures),
-      λ i. record { kind = kind i; used = used i },
+    let kind = c.in_ok-kind.kind in
+    let number = known p.kind c.try_from.result kind c.try_from.ensures c.in_ok-kind.ensures.value in (
+      good_form b kind p number named c.if-prefix-ne0.false (sym c.if-not-used_fits.ensures) (sym c.if-not-all_zero.ensures),
+      λ i. record { kind = (number ∙ named.kind) i; used = named.used i },
     )

@@ -5,7 +5,7 @@ use Rattle.format.specs.Faults.{Previous, is_size_good, kind_in, data_in, previo
 use Rattle.reading.specs.Reading.{Parsed, Taken, wrong_at}
 use Rattle.reading.specs.Shapes.{previous_of, shown}
 use Rattle.reading.specs.declared.record.Item.{Item}
-use Rattle.reading.proofs.Gathering.{joins_record}
+use Rattle.reading.proofs.Joining.{joins_record}
 use Rattle.reading.proofs.Places.{wrong_block}
 use Rattle.reading.proofs.reader.Reader.next.Goals as goal
 
