@@ -2,3 +2,4 @@ pub mod Shapes
 pub mod Reading
 pub mod Scanning
 pub mod Sections
+pub mod Parts

@@ -2,6 +2,7 @@
 #![tactic(auto)]
 
 mod faults;
+mod parts;
 mod prefix;
 mod reader;
 mod record;
@@ -10,6 +11,7 @@ mod section;
 mod sections;
 mod shape;
 
+pub use parts::read_parts;
 pub use reader::Reader;
 pub use record::{Item, Record};
 pub use section::Section;
