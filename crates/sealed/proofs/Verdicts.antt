@@ -11,11 +11,12 @@ use Rattle.format.specs.Layout.{check_of}
 use Rattle.format.specs.Faults.{Previous, first, previous, number_in, kind_in, used_in, data_in, check_in, is_form_good, is_order_good, is_size_good, rows_of, block_at, blocks_of, on_fault, fault_of, scanned, data_of, header_in, body_in, tag_in}
 use Rattle.format.specs.Verdict.{after, tag_verdict, verdict}
 use Rattle.format.specs.declared.lengths.Lengths.{Lengths}
-use Rattle.sealed.specs.Checking.{first_pass_answer, EngineAfter}
+use Rattle.reading.specs.Scanning.{first_pass_answer}
+use Rattle.sealed.specs.Checking.{EngineAfter}
 use Rattle.tag.specs.Tags.{Ran}
 use Rattle.format.proofs.Scans.{faultless, went_on}
 use Rattle.format.proofs.Laws.{ending, Passed, passed_tests}
-use Rattle.sealed.proofs.Places.{Sized, no_fault_order, used_of_end}
+use Rattle.reading.proofs.Places.{Sized, no_fault_order, used_of_end}
 
 abbrev lengths_of : List ℕ → Lengths
 lengths_of file = record { header = length (header_in file); body = length (body_in file) }

@@ -7,12 +7,12 @@ ghost use Rattle.sealed.specs.Checking.{EngineAfter};
 
 use crate::handed::{Checked, Handed};
 use crate::hashing::hash_file;
-use crate::scanning::first_pass;
 use engine::Engine;
 use field::Block;
 use format::{BLOCK_BYTES, DATA_AT, Lengths};
 use job::Closed;
 use message::block_of;
+use reading::first_pass;
 use refusal::Refusal;
 
 // The tag that stands in a file's last block. No `From`: it is read from one place of a whole file.

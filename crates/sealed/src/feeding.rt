@@ -3,13 +3,13 @@ ghost use Rattle.std.specs.Prelude.{◌≡◌, ℕ, ◌+◌, ◌≤◌, List, []
 ghost use Rattle.format.specs.Faults.{blocks_of, data_of};
 ghost use Rattle.format.specs.Kinds.{number_of};
 ghost use Rattle.message.specs.Limits.{header_limit, body_limit};
-ghost use Rattle.sealed.specs.Checking.{data_of_kind};
+ghost use Rattle.reading.specs.Scanning.{data_of_kind};
 ghost use Rattle.sealed.specs.Feeding.{BodyFed, HeaderFed};
 
-use crate::prefix::read_prefix;
 use engine::Engine;
 use format::{BLOCK_BYTES, DATA_AT, Kind};
 use job::{BodyJob, HeaderJob};
+use reading::read_prefix;
 
 // A job in the state of one part, of which it takes piece after piece.
 pub(crate) trait Takes {

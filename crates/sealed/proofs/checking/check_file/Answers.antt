@@ -9,7 +9,7 @@ use Rattle.format.specs.Verdict.{after, tag_verdict, Exact}
 use Rattle.format.proofs.Laws.{exact}
 use Rattle.format.specs.declared.lengths.Lengths.{Lengths}
 use Rattle.sealed.specs.Checking.{EngineAfter}
-use Rattle.sealed.proofs.Places.{sized}
+use Rattle.reading.proofs.Places.{sized}
 use Rattle.sealed.proofs.Verdicts.{hashed_file, passed, tag_stored, untouched, verdict_after}
 use Rattle.sealed.proofs.checking.check_file.Goals as goal
 

@@ -2,7 +2,7 @@ use Rattle.std.proofs.Common.{◌≤◌, ℕ, List, length, take, subst, sym, �
 use Rattle.std.proofs.lemmas.List.{take_all}
 use Rattle.format.specs.Faults.{data_of}
 use Rattle.format.specs.Kinds.{number_of}
-use Rattle.sealed.proofs.Scans.{chunks_are, data_next}
+use Rattle.reading.proofs.Scans.{chunks_are, data_next}
 use Rattle.sealed.proofs.feeding.feed_part.Goals as goal
 
 pub loop-block-preserved : goal.loop-block-preserved

@@ -1,8 +1,8 @@
 use Rattle.std.proofs.Common.{ℕ, List, arith}
 use Rattle.format.specs.Faults.{header_in, body_in}
-use Rattle.sealed.proofs.Places.{sized}
+use Rattle.reading.proofs.Places.{sized}
 use Rattle.sealed.proofs.Running.{body_none, header_none, ran_whole}
-use Rattle.sealed.proofs.Scans.{data_in_file}
+use Rattle.reading.proofs.Scans.{data_in_file}
 use Rattle.sealed.proofs.hashing.hash_file.Goals as goal
 
 pub feed_part-requires-2 : goal.feed_part-requires-2

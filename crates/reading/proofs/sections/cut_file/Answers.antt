@@ -1,0 +1,92 @@
+use Rattle.std.proofs.Common.{◌≡◌, ℕ, ◌<◌, ◌≤◌, true, eqb, List, [], map, length, take, drop, get_or, Ok, Err, sym, ap, ◌∙◌, subst, arith}
+use Rattle.std.proofs.lemmas.List.{length-take-le}
+use Rattle.std.proofs.lemmas.Result.{err_from_is_err_and}
+use Rattle.std.proofs.lemmas.Bool.Decides.{nat_tests}
+use Rattle.std.specs.List.{concat}
+use Rattle.refusal.specs.declared.Refusal.{Refusal}
+use Rattle.refusal.specs.declared.Refusal.TheVariants.{NoEnd}
+use Rattle.format.specs.Faults.{Previous, blocks_of, data_in, data_of, used_in, scanned, first}
+use Rattle.reading.specs.Scanning.{blocks_of_kind}
+use Rattle.reading.specs.Sections.{lengths_answer}
+use Rattle.reading.specs.Shapes.{previous_of}
+use Rattle.reading.proofs.Answering.{answer_fault, answer_no_end, answer_end}
+use Rattle.reading.proofs.InOrder.{header_cut, body_cut, header_within, body_within, last_end, data_joined}
+use Rattle.reading.proofs.Scans.{chunks_are}
+use Rattle.reading.proofs.sections.cut_file.Goals as goal
+
+-- the test for an end block
+is_end : (kind : ℕ) → eqb kind 3 ≡ true → kind ≡ 3
+is_end kind test = grind (arith, nat_tests)
+
+-- the bytes of a section, where its blocks are those of a kind
+of_kind : (kind : ℕ) (bs cs file_blocks : List (List ℕ)) → cs ≡ blocks_of_kind kind bs → bs ≡ file_blocks → concat (map data_in cs) ≡ data_of kind file_blocks
+of_kind kind bs cs file_blocks cut all = ap (λ (xs : List (List ℕ)). concat (map data_in xs)) cut ∙ sym (data_joined kind bs) ∙ ap (data_of kind) all
+
+pub returns-in_err-scan-clause-answer : goal.returns-in_err-scan-clause-answer
+returns-in_err-scan-clause-answer c =
+    let file : List ℕ = c.args.file.now in
+    let came = err_from_is_err_and c.from_residual.result c.from_residual.ensures.1 in
+    let all = chunks_are file c.as_chunks.result.0.now c.as_chunks.ensures.front in
+    ap lengths_answer (came.1 ∙ ap (λ (e : Refusal). Err e) came.2)
+    ∙ sym (answer_fault file (sym c.if-not-size_good.ensures) c.in_err-scan.field-0.0 (ap (scanned 0 first) (sym all) ∙ c.in_err-scan.ensures))
+
+pub returns-then-not-has_end-clause-answer : goal.returns-then-not-has_end-clause-answer
+returns-then-not-has_end-clause-answer c =
+    let file : List ℕ = c.args.file.now in
+    let all = chunks_are file c.as_chunks.result.0.now c.as_chunks.ensures.front in
+    let none = sym c.has_end.ensures ∙ c.if-not-has_end.true in
+    ap (λ (n : ℕ). Err (NoEnd n)) c.as_chunks.ensures.front_len
+    ∙ sym (answer_no_end file (sym c.if-not-size_good.ensures) (previous_of c.in_ok-scan.scan.last) (ap (scanned 0 first) (sym all) ∙ c.in_ok-scan.ensures.0) none)
+
+pub split_at-requires : goal.split_at-requires
+split_at-requires c =
+    let said = c.in_ok-scan.ensures in
+    let last : Previous = previous_of c.in_ok-scan.scan.last in
+    header_within c.as_chunks.result.0.now last c.in_ok-scan.scan.header.blocks c.in_ok-scan.scan.body.blocks said.0
+    (is_end last.kind (sym c.has_end.ensures ∙ c.if-not-has_end.false)) said.1.blocks said.2.blocks
+
+pub split_at-requires-2 : goal.split_at-requires-2
+split_at-requires-2 c =
+    let said = c.in_ok-scan.ensures in
+    let last : Previous = previous_of c.in_ok-scan.scan.last in
+    subst (λ (bs : List (List ℕ)). c.in_ok-scan.scan.body.blocks ≤ length bs) (sym c.split_at.ensures.back)
+    (body_within c.as_chunks.result.0.now last c.in_ok-scan.scan.header.blocks c.in_ok-scan.scan.body.blocks said.0
+    (is_end last.kind (sym c.has_end.ensures ∙ c.if-not-has_end.false)) said.1.blocks said.2.blocks)
+
+pub bounds-end-0 : goal.bounds-end-0
+bounds-end-0 c =
+    let said = c.in_ok-scan.ensures in
+    let last : Previous = previous_of c.in_ok-scan.scan.last in
+    let one = last_end c.as_chunks.result.0.now last c.in_ok-scan.scan.header.blocks c.in_ok-scan.scan.body.blocks said.0
+    (is_end last.kind (sym c.has_end.ensures ∙ c.if-not-has_end.false)) said.1.blocks said.2.blocks in
+    let end : length c.split_at-2.result.1.now ≡ 1 = ap length (c.split_at-2.ensures.back ∙ ap (drop c.in_ok-scan.scan.body.blocks) c.split_at.ensures.back ∙ one.1) in
+    let some : 0 < length c.split_at-2.result.1.now = omega (arith, end) in
+    some
+
+pub returns : goal.returns
+returns c =
+    let file : List ℕ = c.args.file.now in
+    let bs : List (List ℕ) = c.as_chunks.result.0.now in
+    let scan = c.in_ok-scan.scan in
+    let said = c.in_ok-scan.ensures in
+    let last : Previous = previous_of scan.last in
+    let all : bs ≡ blocks_of file = chunks_are file bs c.as_chunks.ensures.front in
+    let test : eqb last.kind 3 ≡ true = sym c.has_end.ensures ∙ c.if-not-has_end.false in
+    let end = is_end last.kind test in
+    let one = last_end bs last scan.header.blocks scan.body.blocks said.0 end said.1.blocks said.2.blocks in
+    let cut = c.split_at-2.ensures.back ∙ ap (drop scan.body.blocks) c.split_at.ensures.back ∙ one.1 in
+    let block : get_or c.split_at-2.result.1.now 0 [] ≡ one.0 = ap (λ (xs : List (List ℕ)). get_or xs 0 []) cut in
+    let used : c.read.result.used ≡ 16 = c.read.ensures.says.used ∙ ap used_in block ∙ one.3 in
+    let tag : c.data.result.now ≡ data_in one.0 =
+    c.data.ensures ∙ (λ i. take ((c.read.ensures.says.used ∙ ap used_in block) i) ((c.read.ensures.says.rest ∙ ap (drop 6) block) i)) in
+    record {
+      answer =
+          (λ i. Ok record { header = (said.1.bytes ∙ ap (λ (xs : List (List ℕ)). length (data_of 1 xs)) all) i; body = (said.2.bytes ∙ ap (λ (xs : List (List ℕ)). length (data_of 2 xs)) all) i })
+          ∙ sym (answer_end file (sym c.if-not-size_good.ensures) last (ap (scanned 0 first) (sym all) ∙ said.0) test);
+      sections = record {
+        header = of_kind 1 bs c.split_at.result.0.now (blocks_of file) (c.split_at.ensures.front ∙ header_cut bs last scan.header.blocks scan.body.blocks said.0 end said.1.blocks said.2.blocks) all;
+        body = of_kind 2 bs c.split_at-2.result.0.now (blocks_of file) (c.split_at-2.ensures.front ∙ ap (take scan.body.blocks) c.split_at.ensures.back ∙ body_cut bs last scan.header.blocks scan.body.blocks said.0 end said.1.blocks said.2.blocks) all;
+        tag = tag ∙ sym one.2 ∙ ap (data_of 3) all;
+        whole_tag = ap length c.data.ensures ∙ length-take-le c.read.result.used c.read.result.rest.now (omega (arith, used, c.read.ensures.whole)) ∙ used;
+      };
+    }

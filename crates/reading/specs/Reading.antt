@@ -1,0 +1,81 @@
+-- What a reader answers.
+use Rattle.std.specs.Prelude.{◌≡◌, ℕ, suc, true, false, ◌*◌, ◌≤◌, cond, List, [], ◌++◌, length, take, drop, Some, None, Ok, Err, Option, Result, ◌==◌}
+use Rattle.refusal.specs.declared.Refusal.{Refusal}
+use Rattle.refusal.specs.declared.Refusal.TheVariants.{FileSize, NoEnd}
+use Rattle.format.specs.Faults.{Previous, number_in, kind_in, reserve_in, used_in, data_in, is_form_good, is_size_good, previous, block_at, previous_at, fault_of, rows_of, blocks_of, data_of}
+use Rattle.reading.specs.Shapes.{shown}
+use Rattle.reading.specs.declared.prefix.Prefix.{Prefix}
+use Rattle.reading.specs.declared.record.Item.{Item}
+use Rattle.reading.specs.declared.record.Record.{Record}
+use Rattle.reading.specs.declared.record.Record.TheVariants.{Header, Body, End}
+use Rattle.reading.specs.declared.shape.Shape.{Shape}
+
+-- what the first six bytes of a block say, and the bytes that follow them
+pub record IsPrefixOf (block : List ℕ) (prefix : Prefix) : Type 0 where
+  pub number : prefix.number ≡ number_in block
+  pub kind : prefix.kind ≡ kind_in block
+  pub reserve : prefix.reserve ≡ reserve_in block
+  pub used : prefix.used ≡ used_in block
+  pub rest : prefix.rest.now ≡ drop 6 block
+
+-- the shape that a block has, or none where its form is wrong
+abbrev pub Formed : List ℕ → Option Shape → Type 0
+Formed b None = is_form_good b ≡ false
+Formed b (Some s) = (is_form_good b ≡ true) × (shown s ≡ previous b)
+
+-- the shape of block k, which stands after p, or its first fault
+abbrev pub Checked : ℕ → Previous → List ℕ → Result Shape Refusal → Type 0
+Checked k p b (Ok s) = (fault_of k p b ≡ None) × (shown s ≡ previous b)
+Checked k p b (Err e) = fault_of k p b ≡ Some e
+
+abbrev pub kind_of : Record → ℕ
+kind_of (Header piece) = 1
+kind_of (Body piece) = 2
+kind_of (End piece) = 3
+
+abbrev pub data_held : Record → List ℕ
+data_held (Header piece) = piece.now
+data_held (Body piece) = piece.now
+data_held (End piece) = piece.now
+
+-- the record of the first block, and what follows that block
+pub record Parsed (left : List ℕ) (r : Record) (rest : List ℕ) : Type 0 where
+  pub kind : kind_of r ≡ kind_in (take 512 left)
+  pub bytes : data_held r ≡ data_in (take 512 left)
+  pub after : rest ≡ drop 512 left
+
+-- the record of block k, and the file from the next block on
+pub record Taken (file : List ℕ) (k : ℕ) (i : Item) : Type 0 where
+  pub kind : kind_of i.record ≡ kind_in (block_at file k)
+  pub bytes : data_held i.record ≡ data_in (block_at file k)
+  pub after : i.rest.now ≡ drop (512 * suc k) file
+
+-- what is wrong at place k: the file's size, a file that ends without an end block, or the first fault of block k
+abbrev pub wrong_at : List ℕ → ℕ → Option Refusal
+wrong_at file k =
+    cond (is_size_good file)
+    (cond (512 * k == length file)
+    (cond ((previous_at file k).kind == 3) None (Some (NoEnd k)))
+    (fault_of k (previous_at file k) (block_at file k)))
+    (Some FileSize)
+
+-- One call of a reader that has read k blocks, and then has read t.
+abbrev pub Read : List ℕ → ℕ → ℕ → Result (Option Item) Refusal → Type 0
+Read file k t (Ok None) = (wrong_at file k ≡ None) × (512 * k ≡ length file) × (t ≡ k)
+Read file k t (Ok (Some i)) = (wrong_at file k ≡ None) × (512 * suc k ≤ length file) × Taken file k i × (t ≡ suc k)
+Read file k t (Err e) = (wrong_at file k ≡ Some e) × (t ≡ k)
+
+-- what a record brings to the part of a kind
+abbrev pub brought : ℕ → Record → List ℕ
+brought kind r = cond (kind_of r == kind) (data_held r) []
+
+-- the data of a kind in the first n blocks of a file
+abbrev pub data_before : ℕ → ℕ → List ℕ → List ℕ
+data_before kind n file = data_of kind (rows_of n file)
+
+-- One call of a reader that has read k blocks: the data of each part in one block more is that in k blocks joined with what the record
+-- brings; and where there is no record, the first k blocks are all that the file has. A refusal says nothing of the data.
+abbrev pub Joins : List ℕ → ℕ → Result (Option Item) Refusal → Type 0
+Joins file k (Ok None) = rows_of k file ≡ blocks_of file
+Joins file k (Ok (Some i)) = (data_before 1 (suc k) file ≡ data_before 1 k file ++ brought 1 i.record) × (data_before 2 (suc k) file ≡ data_before 2 k file ++ brought 2 i.record)
+Joins file k (Err e) = Unit {0}

@@ -1,0 +1,91 @@
+// A file read record by record: a window on it, moved from block to block.
+// No `Iterator`: after a refusal it stays where it is, and would answer the same refusal for ever.
+ghost use Rattle.std.specs.Prelude.{◌≡◌, ◌*◌, ◌≤◌, length, take};
+ghost use Rattle.format.specs.Faults.{previous, previous_at};
+ghost use Rattle.format.specs.Kinds.{number_of};
+ghost use Rattle.reading.specs.Reading.{Joins, Parsed, Read, data_held, kind_of};
+ghost use Rattle.reading.specs.Shapes.{previous_of, shown};
+
+use crate::faults::{check_block, size_good};
+use crate::prefix::Prefix;
+use crate::record::{Item, Record};
+use crate::shape::Shape;
+use format::{BLOCK_BYTES, Kind};
+use refusal::Refusal;
+
+#[derive(Drop)]
+pub struct Reader<'a> {
+    pub(crate) file: &'a [u8],
+    // How many blocks were read.
+    pub(crate) place: usize,
+    // The last of them.
+    pub(crate) last: Option<Shape>,
+    ghost within: { 512 * place ≤ length file.now },
+    ghost kind: { (previous_of last).kind ≡ (previous_at file.now place).kind },
+    ghost used: { (previous_of last).used ≡ (previous_at file.now place).used },
+}
+
+// No `From`: a record needs its data too.
+fn record_of<'a>(kind: Kind, data: &'a [u8]) -> Record<'a>
+    ensures kind { kind_of result ≡ number_of kind }
+    ensures bytes { data_held result ≡ «data».now }
+{
+    match kind {
+        Kind::Header => Record::Header(data),
+        Kind::Body => Record::Body(data),
+        Kind::End => Record::End(data),
+    }
+}
+
+// The record of a block of this shape, and the bytes after the block.
+// A bare pair, as a parser answers: what was read, and what is left.
+fn parse<'a>(left: &'a [u8], shape: Shape) -> (Record<'a>, &'a [u8])
+    requires long { 512 ≤ length left.now }
+    requires shape { shown shape ≡ previous (take 512 left.now) }
+    ensures { Parsed left.now result.0 result.1.now }
+{
+    let Some((block, rest)) = left.split_first_chunk::<BLOCK_BYTES>() else {
+        unreachable!()
+    };
+    (record_of(shape.kind, Prefix::read(block).data()), rest)
+}
+
+impl<'a> Reader<'a> {
+    pub fn new(file: &'a [u8]) -> Reader<'a>
+        ensures { (result.file.now ≡ file.now) × (result.place ≡ 0) }
+    {
+        Reader {
+            file,
+            place: 0,
+            last: None,
+        }
+    }
+
+    // The next record, or none after the end; a refusal leaves the reader where it is.
+    #[tactic(auto, using(crate::proofs::Scans::rows_all))]
+    pub fn next(&mut self) -> Result<Option<Item<'a>>, Refusal>
+        ensures file { self.new.file.now ≡ self.old.file.now }
+        ensures read { Read self.old.file.now self.old.place self.new.place result }
+        ensures joins { Joins self.old.file.now self.old.place result }
+    {
+        let file = self.file;
+        let place = self.place;
+        if !size_good(file) {
+            return Err(Refusal::FileSize);
+        }
+        let left = &file[BLOCK_BYTES * place..];
+        let Some(block) = left.first_chunk::<BLOCK_BYTES>() else {
+            if self.last.is_some_and(Shape::is_end) {
+                return Ok(None);
+            }
+            return Err(Refusal::NoEnd {
+                blocks: place as u32,
+            });
+        };
+        let shape = check_block(block, place as u32, self.last)?;
+        let (record, rest) = parse(left, shape);
+        self.place = place + 1;
+        self.last = Some(shape);
+        Ok(Some(Item { record, rest }))
+    }
+}

@@ -1,0 +1,43 @@
+// The blocks of one part.
+ghost use Rattle.std.specs.Prelude.{◌≡◌, ◌≤◌, ◌++◌, length, drop};
+ghost use Rattle.std.specs.Iterator.{YieldsFirstRef, item_count};
+ghost use Rattle.reading.specs.Sections.{section_bytes, section_pieces};
+
+use crate::prefix::Prefix;
+use format::BLOCK_BYTES;
+
+/// The blocks of one part of a file, one after another: an iterator that answers the data of each.
+#[derive(Drop)]
+pub struct Section<'a> {
+    // The blocks whose data are still to come.
+    pub(crate) blocks: &'a [[u8; BLOCK_BYTES]],
+}
+
+impl<'a> Iterator for Section<'a> {
+    type Item = &'a [u8];
+
+    ghost next_gives = { YieldsFirstRef section_pieces };
+
+    ghost remaining = { item_count section_pieces };
+
+    fn next(&mut self) -> Option<&'a [u8]> {
+        let (block, later) = self.blocks.split_first()?;
+        self.blocks = later;
+        Some(Prefix::read(block).data())
+    }
+}
+
+impl<'a> Section<'a> {
+    /// Writes the part to the front of an output that has room for it, and leaves what stands after.
+    pub(crate) fn copy_to(self, output: &mut [u8])
+        requires room { length (section_bytes self) ≤ length output.old }
+        ensures { output.new ≡ section_bytes self.entry ++ drop (length (section_bytes self.entry)) output.old }
+    {
+        let mut at = 0;
+        for piece in self {
+            let end = at + piece.len();
+            output[at..end].copy_from_slice(piece);
+            at = end;
+        }
+    }
+}

@@ -1,0 +1,51 @@
+// A file without fault, cut where its parts begin and end.
+ghost use Rattle.std.specs.Prelude.{◌≡◌, IfOk};
+ghost use Rattle.format.specs.Verdict.{scan_answer};
+ghost use Rattle.reading.specs.Sections.{IsCutOf, lengths_answer};
+
+use crate::faults::size_good;
+use crate::prefix::Prefix;
+use crate::scanning::scan_blocks;
+use crate::section::Section;
+use format::{BLOCK_BYTES, Lengths};
+use refusal::Refusal;
+
+/// The blocks of both parts, and the tag, all borrowed from the file.
+#[derive(Drop)]
+pub struct Sections<'a> {
+    pub header: Section<'a>,
+    pub body: Section<'a>,
+    /// The 16 bytes of data of the end block.
+    pub tag: &'a [u8],
+    /// How many bytes of data the blocks of each part have.
+    pub lengths: Lengths,
+}
+
+/// All that can be said of a file without its key. It refuses a file of a wrong size, then by its first block with a fault,
+/// and one whose last block is no end block.
+pub fn cut_file(file: &[u8]) -> Result<Sections<'_>, Refusal>
+    ensures answer { lengths_answer result ≡ scan_answer file.now }
+    ensures sections { IfOk result (IsCutOf file.now) }
+{
+    if !size_good(file) {
+        return Err(Refusal::FileSize);
+    }
+    let (blocks, _rest) = file.as_chunks::<BLOCK_BYTES>();
+    let scan = scan_blocks(blocks)?;
+    if !scan.has_end() {
+        return Err(Refusal::NoEnd {
+            blocks: blocks.len() as u32,
+        });
+    }
+    let (header, after) = blocks.split_at(scan.header.blocks);
+    let (body, end) = after.split_at(scan.body.blocks);
+    Ok(Sections {
+        header: Section { blocks: header },
+        body: Section { blocks: body },
+        tag: Prefix::read(&end[0]).data(),
+        lengths: Lengths {
+            header: scan.header.bytes,
+            body: scan.body.bytes,
+        },
+    })
+}
