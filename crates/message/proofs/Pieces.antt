@@ -1,5 +1,5 @@
 -- The blocks of a part: its whole pieces of 16 bytes, and the one that is left.
-use Rattle.std.proofs.Common.{◌≡◌, ℕ, zero, suc, ◌+◌, ◌-◌, ◌*◌, ◌/◌, ◌<◌, ◌≤◌, List, [], ◌∷◌, ◌++◌, length, map, take, drop, replicate, sym, ap, ◌∙◌, ap₂, append-nil, zero-add, suc-add, arith, length-drop, length-take-le, drop-drop}
+use Rattle.std.proofs.Common.{◌≡◌, ℕ, zero, suc, ◌+◌, ◌-◌, ◌*◌, ◌/◌, ◌<◌, ◌≤◌, List, [], ◌∷◌, ◌++◌, length, map, take, drop, replicate, ap, ◌∙◌, ap₂, append-nil, zero-add, suc-add, arith, length-drop, length-take-le, drop-drop}
 use Rattle.std.specs.Simd.{first_chunks}
 use Rattle.field.specs.Bytes.{block_of}
 use Rattle.field.specs.declared.kinds.Block.{Block}

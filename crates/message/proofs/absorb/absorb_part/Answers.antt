@@ -1,4 +1,4 @@
-use Rattle.std.proofs.Common.{◌≡◌, ℕ, ◌*◌, ◌/◌, List, [], ◌∷◌, ◌++◌, length, map, drop, sym, ap, ap₂, ◌∙◌, ◌<◌, arith}
+use Rattle.std.proofs.Common.{◌≡◌, ℕ, ◌*◌, ◌/◌, List, ◌++◌, length, map, drop, sym, ap, ap₂, ◌∙◌, ◌<◌, arith}
 use Rattle.std.proofs.lemmas.Bool.{eqb-true, eqb-false}
 use Rattle.std.specs.Simd.{first_chunks}
 use Rattle.field.specs.Bytes.{block_of}
@@ -7,7 +7,7 @@ use Rattle.field.specs.Instances.{block_ring_laws}
 use Rattle.field.specs.Kinds.{block_ring}
 use Rattle.field.specs.declared.kinds.Block.{Block}
 use Rattle.field.proofs.Horner.{absorbed_append, absorbed_from}
-use Rattle.message.specs.Blocks.{filled, blocks}
+use Rattle.message.specs.Blocks.{blocks}
 use Rattle.message.proofs.Cutting.{blocks_none}
 use Rattle.message.proofs.Pieces.{blocks_whole, blocks_short}
 use Rattle.message.proofs.absorb.absorb_part.Goals as goal

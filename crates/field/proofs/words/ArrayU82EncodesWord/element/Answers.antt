@@ -9,5 +9,5 @@ unfolding numeral
 returns c =
     let at : ℕ → ℕ = λ k. get_or c.args.self.now k 0 in
     let long : length c.args.self.now ≡ 2 = search rules in
-    let summed : c.from.result ≡ numeral 256 (spelled 2 at) = omega (arith, c.from.ensures, c.from_be_bytes.ensures) in
+    let summed : c.from.result ≡ numeral 256 (spelled 2 at) = omega arith in
     c.new.ensures ∙ ap word (summed ∙ ap (numeral 256) (sym (spells c.args.self.now ∙ ap (λ (n : ℕ). spelled n at) long)))
