@@ -76,9 +76,10 @@ ones_low (suc n) v =
     ∙ ap ones (sym (mod-pow-add v 1 n) ∙ ap (λ (m : ℕ). v % 2 ^ m) (one-add n))
 
 -- the two parts of a number are counted apart
-pub ones_parts : (k v u w : ℕ) → u ≡ v → w ≡ v → ones (u / 2 ^ k) + ones (bit_and w (2 ^ k - 1)) ≡ ones v
-ones_parts k v u w e e' =
-    ap₂ (λ (m n : ℕ). ones (m / 2 ^ k) + ones n) e (and_mask w k ∙ ap (λ (n : ℕ). n % 2 ^ k) e')
+pub ones_parts : (k v u w mask : ℕ) → u ≡ v → w ≡ v → mask ≡ 2 ^ k - 1 → ones (u / 2 ^ k) + ones (bit_and w mask) ≡ ones v
+ones_parts k v u w mask e e' low =
+    ap₂ (λ (m n : ℕ). ones (m / 2 ^ k) + ones (bit_and w n)) e low
+    ∙ ap (λ (n : ℕ). ones (v / 2 ^ k) + ones n) (and_mask w k ∙ ap (λ (n : ℕ). n % 2 ^ k) e')
     ∙ sym (ones_cat k (v / 2 ^ k) (v % 2 ^ k) (mod-lt v (pow_pos k)))
     ∙ ap ones (split v k)
 

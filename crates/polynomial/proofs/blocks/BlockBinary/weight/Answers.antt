@@ -5,5 +5,5 @@ use Rattle.polynomial.proofs.blocks.BlockBinary.weight.Goals as goal
 
 pub returns : goal.returns
 returns c =
-    rw c.from.ensures
-    (weighed block_placed block_held c.args.self _ (ones_parts 64 c.args.self.bits _ _ c.bits-bits.ensures c.bits-bits.ensures))
+    weighed block_placed block_held c.args.self _
+    (ones_parts 64 c.args.self.bits _ _ _ c.bits-bits.ensures c.bits-bits.ensures c.from.ensures)
