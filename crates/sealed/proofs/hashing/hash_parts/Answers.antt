@@ -21,7 +21,7 @@ returns g c =
     let second = c.take-2.ensures b [] (omega (arith, c.requires.few)) (λ h' given' e header' took. took) h given b.filling.engine header turned in
     let closes = c.close.ensures.closes h given header body second.holds in
     record {
-      ran = ran_whole m engine s.filling.engine pad j b t c.close.result header body c.start-job.ensures.whole first c.turn-job.ensures.whole second c.close.ensures.whole closes;
+      ran = ran_whole m engine s.filling.engine pad j b t c.close.result header body c.start-job.ensures.whole.resumed first c.turn-job.ensures.whole second c.close.ensures.whole.hashed closes;
       hash = closes.hash;
       tag = closes.tag;
     }
