@@ -5,12 +5,13 @@ use Rattle.field.specs.Kinds.{block_ring}
 use Rattle.field.specs.declared.kinds.Block.{Block}
 use Rattle.message.specs.Blocks.{AreBytes, blocks, block_of_counts}
 use Rattle.message.specs.Hash.{hash_of, tag_of}
+use Rattle.message.specs.Standard.{MeetsStandard}
 use Rattle.engine.specs.Hashing.{switch_answer}
 use Rattle.engine.specs.Rows.{Hashed}
 use Rattle.engine.specs.declared.engine.Engine.{Ghosts}
 use Rattle.message.specs.declared.part.Part.TheVariants.{Header, Body}
 use Rattle.job.specs.Cuts.{full_blocks, left_over}
-use Rattle.job.specs.Plain.{Answer, answer_after}
+use Rattle.job.specs.Plain.{Answer, answer_after, feed_answer, joined}
 use Rattle.job.specs.declared.state.Filling.{Filling}
 use Rattle.job.specs.declared.state.HeaderJob.{HeaderJob}
 use Rattle.job.specs.declared.state.BodyJob.{BodyJob}
@@ -135,3 +136,47 @@ module _ {E : Type 0} (m : Ghosts E) where
     pub value : m.value_of closed.engine ≡ hash_of h header body
     pub subkey : m.subkey_of closed.engine ≡ h
     pub ready : m.ready_of closed.engine ≡ switches
+
+  -- What each call does to a job that has taken some bytes: it is answered as the plain job is, and then the job holds what that holds.
+  abbrev pub FollowsFeed : Filling E → List ℕ → Answer → Filling E → Type 0
+  FollowsFeed f piece result t =
+      (h : Block) (switches : Bool) (before : List Block) (taken : List ℕ) → Holds h switches before f taken
+      → (result ≡ feed_answer f.part taken piece) × Holds h switches before t (joined f.part taken piece)
+
+  abbrev pub HeaderFollowsFeed : HeaderJob E → List ℕ → Answer → HeaderJob E → Type 0
+  HeaderFollowsFeed j piece result t =
+      (h : Block) (switches : Bool) (header : List ℕ) → HeaderHolds h switches j header
+      → (result ≡ feed_answer Header header piece) × HeaderHolds h switches t (joined Header header piece)
+
+  abbrev pub BodyFollowsFeed : BodyJob E → List ℕ → Answer → BodyJob E → Type 0
+  BodyFollowsFeed j piece result t =
+      (h : Block) (switches : Bool) (header body : List ℕ) → BodyHolds h switches j header body
+      → (result ≡ feed_answer Body body piece) × BodyHolds h switches t header (joined Body body piece)
+
+  abbrev pub FollowsSwitch : Filling E → Answer → Filling E → Type 0
+  FollowsSwitch f result t =
+      (h : Block) (switches : Bool) (before : List Block) (taken : List ℕ) → Holds h switches before f taken
+      → (result ≡ switch_answer switches) × Holds h switches before t taken
+
+  abbrev pub HeaderFollowsSwitch : HeaderJob E → Answer → HeaderJob E → Type 0
+  HeaderFollowsSwitch j result t =
+      (h : Block) (switches : Bool) (header : List ℕ) → HeaderHolds h switches j header
+      → (result ≡ switch_answer switches) × HeaderHolds h switches t header
+
+  abbrev pub BodyFollowsSwitch : BodyJob E → Answer → BodyJob E → Type 0
+  BodyFollowsSwitch j result t =
+      (h : Block) (switches : Bool) (header body : List ℕ) → BodyHolds h switches j header body
+      → (result ≡ switch_answer switches) × BodyHolds h switches t header body
+
+  -- the header is at its end, and the body has taken nothing
+  abbrev pub FollowsTurn : HeaderJob E → BodyJob E → Type 0
+  FollowsTurn j b = (h : Block) (switches : Bool) (header : List ℕ) → HeaderHolds h switches j header → BodyHolds h switches b header []
+
+  -- the job closes as the plain job does, and meets the standard
+  abbrev pub FollowsClose : BodyJob E → Block → Closed E → Type 0
+  FollowsClose j pad closed =
+      (h : Block) (switches : Bool) (header body : List ℕ) → BodyHolds h switches j header body → Closes h switches pad closed header body
+
+  abbrev pub ClosesByStandard : BodyJob E → Block → Closed E → Type 0
+  ClosesByStandard j pad closed =
+      (h : Block) (switches : Bool) (header body : List ℕ) → BodyHolds h switches j header body → MeetsStandard h pad header body closed.hash closed.tag

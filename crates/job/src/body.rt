@@ -1,11 +1,5 @@
 // The body state of a job, and its close.
-ghost use Rattle.std.specs.Prelude.{◌≡◌, ℕ, Bool, List};
-ghost use Rattle.field.specs.declared.kinds.Block.{Block};
-ghost use Rattle.engine.specs.Hashing.{switch_answer};
-ghost use Rattle.message.specs.Standard.{MeetsStandard};
-ghost use Rattle.job.specs.Jobs.{BodyHolds, Closes, ClosesBody, FeedsBody, SwitchesBody};
-ghost use Rattle.job.specs.Plain.{feed_answer, joined};
-ghost use Rattle.message.specs.declared.part.Part.TheVariants.{Body};
+ghost use Rattle.job.specs.Jobs.{BodyFollowsFeed, BodyFollowsSwitch, ClosesBody, ClosesByStandard, FeedsBody, FollowsClose, SwitchesBody};
 
 use crate::call::Answer;
 use crate::state::{BodyJob, Closed, Filling};
@@ -14,26 +8,26 @@ use field::{Block, Element};
 use message::block_of_byte_counts;
 
 impl<E: Engine> BodyJob<E> {
-    // Takes the whole piece, or none of it where the body would pass its limit.
+    /// Takes the whole piece, or none of it: it is refused where the body would pass its limit, and nothing changes then.
     pub fn feed(&mut self, piece: &[u8]) -> Answer
-        ensures holds { (h : Block) (switches : Bool) (header body : List ℕ) → BodyHolds E.Engine h switches self.old header body → (result ≡ feed_answer Body body piece.now) × BodyHolds E.Engine h switches self.new header (joined Body body piece.now) }
+        ensures holds { BodyFollowsFeed E.Engine self.old piece.now result self.new }
         ensures whole { FeedsBody E.Engine self.old piece.now result self.new }
     {
         self.filling.put(piece)
     }
 
-    // The engine's own answer; a half-filled block stays.
+    /// Asks the engine to switch, which it refuses where it is not ready. A half-filled block stays as it is.
     pub fn switch(&mut self) -> Answer
-        ensures holds { (h : Block) (switches : Bool) (header body : List ℕ) → BodyHolds E.Engine h switches self.old header body → (result ≡ switch_answer switches) × BodyHolds E.Engine h switches self.new header body }
+        ensures holds { BodyFollowsSwitch E.Engine self.old result self.new }
         ensures whole { SwitchesBody E.Engine self.old result self.new }
     {
         self.filling.switch()
     }
 
-    // The body's last block is filled with zeros, the length block ends the hash, and the pad makes it the tag.
+    /// Ends the job: the body's last block is filled with zeros, the length block ends the hash, and the pad makes it the tag.
     pub fn close(self, pad: Block) -> Closed<E>
-        ensures closes { (h : Block) (switches : Bool) (header body : List ℕ) → BodyHolds E.Engine h switches self header body → Closes E.Engine h switches pad result header body }
-        ensures standard { (h : Block) (switches : Bool) (header body : List ℕ) → BodyHolds E.Engine h switches self header body → MeetsStandard h pad header body result.hash result.tag }
+        ensures closes { FollowsClose E.Engine self pad result }
+        ensures standard { ClosesByStandard E.Engine self pad result }
         ensures whole { ClosesBody E.Engine self pad result }
     {
         let BodyJob {

@@ -4,10 +4,12 @@ use refusal::Refusal;
 /// What a call of a job answers: that it was accepted, or why it was refused.
 pub type Answer = Result<(), Refusal>;
 
-/// What may be asked of a job within one of its states. No `Option` of a piece: a switch is a call, and no piece that is missing.
+/// What may be asked of a job within one of its states.
 #[derive(Clone, Copy, PartialEq, Eq, Debug)]
 pub enum Call<'a> {
+    // The next bytes of the part; an empty piece is a feed too.
     Feed(&'a [u8]),
+    // That the other engine take over.
     Switch,
 }
 

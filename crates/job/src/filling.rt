@@ -1,12 +1,9 @@
 // Bytes cut into blocks on their way to an engine.
-ghost use Rattle.std.specs.Prelude.{◌≡◌, ℕ, Bool, List, [], ◌∷◌, take};
+ghost use Rattle.std.specs.Prelude.{◌≡◌, [], ◌∷◌, take};
 ghost use Rattle.field.specs.Bytes.{block_of};
-ghost use Rattle.field.specs.declared.kinds.Block.{Block};
-ghost use Rattle.engine.specs.Hashing.{switch_answer};
 ghost use Rattle.engine.specs.Rows.{Hashed};
 ghost use Rattle.message.specs.Blocks.{filled};
-ghost use Rattle.job.specs.Jobs.{Cut, Feeds, Flushed, Holds, Switches};
-ghost use Rattle.job.specs.Plain.{feed_answer, joined};
+ghost use Rattle.job.specs.Jobs.{Cut, Feeds, Flushed, FollowsFeed, FollowsSwitch, Switches};
 
 use crate::call::Answer;
 use crate::state::Filling;
@@ -14,7 +11,8 @@ use arrayvec::ArrayVec;
 use engine::Engine;
 use message::block_of;
 
-// The bytes that wait are hashed, filled with zeros. No method: a full block may wait here, which `Filling` rules out.
+// The bytes that wait are hashed, filled with zeros. All 16 may be there, which a whole `Filling` never shows: so it takes the two
+// fields.
 fn absorb_held<E: Engine>(engine: &mut E, held: &mut ArrayVec<u8, 16>)
     ensures hashed { Hashed E.Engine engine.old (block_of (filled (take 16 held.old.items)) ∷ []) engine.new }
     ensures left { held.new.items ≡ [] }
@@ -34,8 +32,7 @@ impl<E: Engine> Filling<E> {
         }
     }
 
-    // Bytes join those that wait, one by one. `try_extend_from_slice` was tried, and is no plainer: it answers a fault that no caller
-    // can have, and asks of callers that the piece has room.
+    // Bytes join those that wait, one by one, however many they are.
     fn hold(&mut self, piece: &[u8])
         ensures { Cut E.Engine self.old piece.now self.new }
     {
@@ -68,7 +65,7 @@ impl<E: Engine> Filling<E> {
     pub(crate) fn put(&mut self, piece: &[u8]) -> Answer
         ensures part { self.new.part ≡ self.old.part }
         ensures whole { Feeds E.Engine self.old piece.now result self.new }
-        ensures holds { (h : Block) (switches : Bool) (before : List Block) (taken : List ℕ) → Holds E.Engine h switches before self.old taken → (result ≡ feed_answer self.old.part taken piece.now) × Holds E.Engine h switches before self.new (joined self.old.part taken piece.now) }
+        ensures holds { FollowsFeed E.Engine self.old piece.now result self.new }
     {
         if piece.len() as u64 > self.part.limit() - self.count {
             return Err(self.part.too_long());
@@ -84,7 +81,7 @@ impl<E: Engine> Filling<E> {
 
     pub(crate) fn switch(&mut self) -> Answer
         ensures whole { Switches E.Engine self.old result self.new }
-        ensures holds { (h : Block) (switches : Bool) (before : List Block) (taken : List ℕ) → Holds E.Engine h switches before self.old taken → (result ≡ switch_answer switches) × Holds E.Engine h switches before self.new taken }
+        ensures holds { FollowsSwitch E.Engine self.old result self.new }
     {
         self.engine.switch()
     }

@@ -1,10 +1,6 @@
 // The header state of a job.
-ghost use Rattle.std.specs.Prelude.{◌≡◌, ℕ, Bool, List, []};
-ghost use Rattle.field.specs.declared.kinds.Block.{Block};
-ghost use Rattle.engine.specs.Hashing.{switch_answer};
-ghost use Rattle.job.specs.Jobs.{BodyHolds, FeedsHeader, HeaderHolds, Starts, SwitchesHeader, Turned};
-ghost use Rattle.job.specs.Plain.{feed_answer, joined};
-ghost use Rattle.message.specs.declared.part.Part.TheVariants.{Header};
+ghost use Rattle.std.specs.Prelude.{[]};
+ghost use Rattle.job.specs.Jobs.{FeedsHeader, FollowsTurn, HeaderFollowsFeed, HeaderFollowsSwitch, HeaderHolds, Starts, SwitchesHeader, Turned};
 
 use crate::call::Answer;
 use crate::state::{BodyJob, Filling, HeaderJob};
@@ -14,7 +10,7 @@ use field::{Block, Element};
 use message::Part;
 
 impl<E: Engine> HeaderJob<E> {
-    // The engine starts at zero, whatever it hashed before.
+    /// A job whose header has taken nothing. The engine goes on from zero, whatever it hashed before.
     pub fn start(mut engine: E) -> HeaderJob<E>
         ensures holds { HeaderHolds E.Engine (E.subkey_of engine) (E.ready_of engine) result [] }
         ensures whole { Starts E.Engine engine result }
@@ -30,25 +26,25 @@ impl<E: Engine> HeaderJob<E> {
         }
     }
 
-    // Takes the whole piece, or none of it where the header would pass its limit.
+    /// Takes the whole piece, or none of it: it is refused where the header would pass its limit, and nothing changes then.
     pub fn feed(&mut self, piece: &[u8]) -> Answer
-        ensures holds { (h : Block) (switches : Bool) (header : List ℕ) → HeaderHolds E.Engine h switches self.old header → (result ≡ feed_answer Header header piece.now) × HeaderHolds E.Engine h switches self.new (joined Header header piece.now) }
+        ensures holds { HeaderFollowsFeed E.Engine self.old piece.now result self.new }
         ensures whole { FeedsHeader E.Engine self.old piece.now result self.new }
     {
         self.filling.put(piece)
     }
 
-    // The engine's own answer; a half-filled block stays.
+    /// Asks the engine to switch, which it refuses where it is not ready. A half-filled block stays as it is.
     pub fn switch(&mut self) -> Answer
-        ensures holds { (h : Block) (switches : Bool) (header : List ℕ) → HeaderHolds E.Engine h switches self.old header → (result ≡ switch_answer switches) × HeaderHolds E.Engine h switches self.new header }
+        ensures holds { HeaderFollowsSwitch E.Engine self.old result self.new }
         ensures whole { SwitchesHeader E.Engine self.old result self.new }
     {
         self.filling.switch()
     }
 
-    // The header is at its end: its last block is filled with zeros, and the body starts at an edge.
+    /// Ends the header: its last block is filled with zeros, so that the body starts at the edge of a block.
     pub fn turn(self) -> BodyJob<E>
-        ensures holds { (h : Block) (switches : Bool) (header : List ℕ) → HeaderHolds E.Engine h switches self header → BodyHolds E.Engine h switches result header [] }
+        ensures holds { FollowsTurn E.Engine self result }
         ensures whole { Turned E.Engine self result }
     {
         let HeaderJob { mut filling } = self;

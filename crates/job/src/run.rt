@@ -19,8 +19,7 @@ fn write(row: &mut [Answer], place: usize, answer: Answer)
 }
 
 impl<E: Engine> Filling<E> {
-    // A match and no closures: calls are values that come from a list, and these are their two kinds. That the part stays is said of
-    // two states of a filling, which the invariant of one does not say.
+    // One call, whichever state the job is in. That the part stays is what makes the state the same one after it.
     fn answer(&mut self, call: &Call) -> Answer
         ensures part { self.new.part ≡ self.old.part }
         ensures answered { AnswersCalls E.Engine self.old (call.now ∷ []) (result ∷ []) self.new }

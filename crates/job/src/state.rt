@@ -20,14 +20,14 @@ pub struct Filling<E> {
     ghost few: { count ≤ limit_of part },
 }
 
-// A job that takes its header. Two types, and no `Job<E, S>`: what only one state holds or does would need a trait over S.
+/// A job in its header state, which a turn ends.
 #[derive(Drop)]
 pub struct HeaderJob<E> {
     pub(crate) filling: Filling<E>,
     ghost taking: { filling.part ≡ Header },
 }
 
-// A job that takes its body; the header's length is kept for the length block.
+/// A job in its body state, which the close ends. The header's length in bytes is kept for the length block.
 #[derive(Drop)]
 pub struct BodyJob<E> {
     pub(crate) filling: Filling<E>,
@@ -36,7 +36,7 @@ pub struct BodyJob<E> {
     ghost short: { header ≤ header_limit },
 }
 
-// What a job ends with.
+/// What a job ends with: the engine, whose value is the hash, the hash, and the tag, which is the hash with the pad added.
 #[derive(Drop)]
 pub struct Closed<E> {
     pub engine: E,

@@ -20,12 +20,7 @@ struct Outcome {
     closed: Closed<Engines>,
 }
 
-fn print_step(
-    rt: &HostRuntime,
-    part: Part,
-    step: &Step,
-    answer: &Answer,
-) -> io::Result<()> {
+fn print_step(rt: &HostRuntime, part: Part, step: &Step, answer: &Answer) -> io::Result<()> {
     let line = step.line;
     // A plain match, here and below: what was asked and what came of it are known only at run time.
     match &step.asked {
@@ -38,7 +33,7 @@ fn print_step(
     }
 }
 
-// How many bytes of a part were taken. Steps and answers stand apart, since the library answers by a list of its own.
+// How many bytes of a part were taken. Steps and answers stand apart, since the library answers into rows.
 fn taken(steps: &[Step], answers: &[Answer]) -> u64 {
     let taken = steps
         .iter()
@@ -48,12 +43,7 @@ fn taken(steps: &[Step], answers: &[Answer]) -> u64 {
 }
 
 // Each answer of a part, in turn.
-fn print_part(
-    rt: &HostRuntime,
-    part: Part,
-    steps: &[Step],
-    answers: &[Answer],
-) -> io::Result<()> {
+fn print_part(rt: &HostRuntime, part: Part, steps: &[Step], answers: &[Answer]) -> io::Result<()> {
     for (step, answer) in steps.iter().zip(answers) {
         print_step(rt, part, step, answer)?;
     }
@@ -79,16 +69,20 @@ fn print_replay(rt: &HostRuntime, script: &Script, done: &Outcome) -> io::Result
 // Drives a job through the script. The rows are as long as their calls, so every answer finds its place.
 fn run_script(rt: &HostRuntime, key: Key, script: &Script) -> Result<Outcome, Stop> {
     let engines = Pair::new(key.step(), Division::new(accepted(key.subkey)?));
-    let steps: Vec<Call> = script.header.iter().map(Step::call).collect(rt.alloc())?;
-    let body_steps: Vec<Call> = script.body.iter().map(Step::call).collect(rt.alloc())?;
+    let header_calls: Vec<Call> = script.header.iter().map(Step::call).collect(rt.alloc())?;
+    let body_calls: Vec<Call> = script.body.iter().map(Step::call).collect(rt.alloc())?;
     let calls = Calls {
-        header: &steps,
-        body: &body_steps,
+        header: &header_calls,
+        body: &body_calls,
     };
-    let mut header: Vec<Answer> = vec![in rt.alloc(); Ok(()); steps.len()]?;
-    let mut body: Vec<Answer> = vec![in rt.alloc(); Ok(()); body_steps.len()]?;
+    let mut header: Vec<Answer> = vec![in rt.alloc(); Ok(()); header_calls.len()]?;
+    let mut body: Vec<Answer> = vec![in rt.alloc(); Ok(()); body_calls.len()]?;
     let closed = replay(engines, calls, key.pad, &mut header, &mut body);
-    Ok(Outcome { header, body, closed })
+    Ok(Outcome {
+        header,
+        body,
+        closed,
+    })
 }
 
 pub(crate) fn replay_script(rt: &HostRuntime, words: &[String]) -> Result<(), Stop> {

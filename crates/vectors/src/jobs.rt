@@ -45,7 +45,7 @@ struct Feeding {
 
 impl Feeding {
     // A part in pieces, and a switch after each.
-    fn cut<'a>(self, part: &'a [u8]) -> Result<Vec<Call<'a>>, AllocError> {
+    fn calls_of<'a>(self, part: &'a [u8]) -> Result<Vec<Call<'a>>, AllocError> {
         part.chunks(self.cut.max(1))
             .flat_map(|piece| [Call::Feed(piece), Call::Switch])
             .collect(self.heap)
@@ -53,8 +53,8 @@ impl Feeding {
 
     fn pieces<'a>(self, message: Message<'a>) -> Result<Pieces<'a>, AllocError> {
         Ok(Pieces {
-            header: self.cut(message.header)?,
-            body: self.cut(message.body)?,
+            header: self.calls_of(message.header)?,
+            body: self.calls_of(message.body)?,
         })
     }
 

@@ -25,6 +25,6 @@ returns g c =
     let second = c.feed_part-2.ensures h given b.filling.engine header turned in
     let closes = c.close.ensures.closes h given header body second.holds in
     record {
-      ran = ran_whole m engine s.filling.engine c.args.pad j b t c.close.result header body c.start-job.ensures.whole first c.turn-job.ensures.whole second c.close.ensures.whole closes;
+      ran = ran_whole m engine s.filling.engine c.args.pad j b t c.close.result header body c.start-job.ensures.whole.resumed first c.turn-job.ensures.whole second c.close.ensures.whole.hashed closes;
       tag = closes.tag;
     }
