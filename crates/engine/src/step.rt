@@ -50,6 +50,7 @@ impl Engine for Step {
         false
     }
 
+    // A step of the evaluation and no `evaluate` of a row: an engine takes one block at a time, and may be asked for T after each.
     fn absorb(&mut self, block: Block) {
         self.value = self.value.plus(block).times(self.subkey);
     }

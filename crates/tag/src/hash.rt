@@ -9,7 +9,8 @@ use engine::Engine;
 use field::{Block, Element};
 use message::{Message, block_of, block_of_byte_counts};
 
-// The blocks of one part. Over an engine, where the one of `message` is the recursion that engines are held to.
+// The blocks of one part. An engine takes one block at a time, so that this is a row of absorbs and no `evaluate` of a row; the one
+// of `message` is the recursion that engines are held to.
 fn absorb_part<E: Engine>(engine: &mut E, part: &[u8])
     ensures { Hashed E.Engine engine.old (blocks part.now) engine.new }
 {

@@ -8,4 +8,4 @@ pub returns-clause-hashed : goal.returns-clause-hashed
 returns-clause-hashed g c =
     let said = c.absorb.ensures in
     hashed_one g.E.Engine c.args.engine.now c.absorb.new.self _ _ said.value said.subkey said.ready said.whole
-    (c.block_of.ensures ∙ ap (λ xs. block_of (filled (take 16 xs))) c.as_slice.ensures.value)
+    (c.block_of.ensures.value ∙ ap (λ xs. block_of (filled (take 16 xs))) c.as_slice.ensures.value)

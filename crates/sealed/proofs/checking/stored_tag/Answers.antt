@@ -13,6 +13,6 @@ returns c =
     let tag : List ℕ = take 16 (drop 6 (drop at file)) in
     let small = small_take 16 (drop 6 (drop at file)) (small_drop 6 (drop at file) (small_drop at file (λ k. (c.type_inv.file k).fits))) in
     let long : length tag ≡ 16 = length-take-le 16 (drop 6 (drop at file)) (omega (arith, length-drop 6 (drop at file), length-drop at file, c.requires)) in
-    ap (λ b. b.bits) c.block_of.ensures
+    ap (λ b. b.bits) c.block_of.ensures.value
     ∙ ap (λ (xs : List ℕ). (block_of (filled (take 16 xs))).bits) (take_rest (take (length file - at) (drop at file)) 6 ∙ ap (drop 6) (take_rest file at))
     ∙ block_bits tag small long

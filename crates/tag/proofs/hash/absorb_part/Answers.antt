@@ -21,7 +21,7 @@ loop-piece-preserved g c =
     went.1.1 ∙ ap₂ (λ (n : ℕ) (xs : List ℕ). min n (length xs)) inv.3 joins in
     let some : 0 < length (piece ++ more) = subst (λ (xs : List ℕ). 0 < length xs) joins went.1.2 in
     let block : Block = block_of (filled piece) in
-    let made = c.block_of.ensures ∙ ap (λ (xs : List ℕ). block_of (filled xs)) (take_all 16 piece (omega (arith, size))) in
+    let made = c.block_of.ensures.value ∙ ap (λ (xs : List ℕ). block_of (filled xs)) (take_all 16 piece (omega (arith, size))) in
     let said = c.absorb.ensures in
     let before = c.loop-piece.engine in
     let after = c.absorb.new.self in (

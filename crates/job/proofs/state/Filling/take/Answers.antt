@@ -22,7 +22,7 @@ returns-then-piece-eq16 g c =
     record {
       hashed =
           subst (λ (ps : List Block). Hashed m f.engine ps e) (sym (ap full_blocks alone ∙ full_one piece sixteen))
-          (hashed_one m f.engine e _ _ said.value said.subkey said.ready said.whole c.block_of.ensures);
+          (hashed_one m f.engine e _ _ said.value said.subkey said.ready said.whole c.block_of.ensures.value);
       left = none ∙ sym (ap left_over alone ∙ left_none piece sixteen);
       count = refl;
       part = refl;
