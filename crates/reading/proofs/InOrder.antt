@@ -95,13 +95,13 @@ one_end k p q (b ∷ bs) done end other =
     ]
 
 -- the data of a kind are those of its blocks
-data_more : (is : Bool) (b : List ℕ) (later : List ℕ) (bs : List (List ℕ)) → later ≡ concat (map data_in bs) → cond is (data_in b ++ later) later ≡ concat (map data_in (cond is (b ∷ bs) bs))
-data_more true b later bs same = ap (λ (xs : List ℕ). data_in b ++ xs) same
-data_more false b later bs same = same
+joined_more : (is : Bool) (b : List ℕ) (later : List ℕ) (bs : List (List ℕ)) → later ≡ concat (map data_in bs) → cond is (data_in b ++ later) later ≡ concat (map data_in (cond is (b ∷ bs) bs))
+joined_more true b later bs same = ap (λ (xs : List ℕ). data_in b ++ xs) same
+joined_more false b later bs same = same
 
-pub data_joined : (kind : ℕ) (bs : List (List ℕ)) → data_of kind bs ≡ concat (map data_in (blocks_of_kind kind bs))
-data_joined kind [] = refl
-data_joined kind (b ∷ bs) = data_more (eqb (kind_in b) kind) b (data_of kind bs) (blocks_of_kind kind bs) (data_joined kind bs)
+pub data_of_blocks : (kind : ℕ) (bs : List (List ℕ)) → data_of kind bs ≡ concat (map data_in (blocks_of_kind kind bs))
+data_of_blocks kind [] = refl
+data_of_blocks kind (b ∷ bs) = joined_more (eqb (kind_in b) kind) b (data_of kind bs) (blocks_of_kind kind bs) (data_of_blocks kind bs)
 
 -- blocks without fault that end with an end block, cut after the blocks of the header and after those of the body
 module _ (bs : List (List ℕ)) (q : Previous) (header body : ℕ) (done : scanned 0 first bs ≡ Ok q) (end : q.kind ≡ 3)
@@ -133,4 +133,4 @@ module _ (bs : List (List ℕ)) (q : Previous) (header body : ℕ) (done : scann
   pub last_end : (e : List ℕ) × (drop body (drop header bs) ≡ e ∷ []) × (data_of 3 bs ≡ data_in e) × (used_in e ≡ 16)
   last_end =
       let one = one_end 0 first q bs done end (λ none. omega (arith, none)) in
-      (one.0, end_cut ∙ one.1, data_joined 3 bs ∙ ap (λ (xs : List (List ℕ)). concat (map data_in xs)) one.1 ∙ append-nil (data_in one.0), one.2)
+      (one.0, end_cut ∙ one.1, data_of_blocks 3 bs ∙ ap (λ (xs : List (List ℕ)). concat (map data_in xs)) one.1 ∙ append-nil (data_in one.0), one.2)

@@ -5,7 +5,7 @@ use Rattle.std.proofs.lemmas.List.{drop-drop, drop_more, take_all, take_more, ta
 use Rattle.std.specs.Simd.{first_chunks}
 use Rattle.refusal.specs.declared.Refusal.{Refusal}
 use Rattle.format.specs.Faults.{Previous, previous, kind_in, used_in, data_in, is_size_good, rows_of, block_at, blocks_of, on_fault, fault_of, scanned, data_of}
-use Rattle.reading.proofs.Places.{block_size, sized}
+use Rattle.reading.proofs.Places.{sized}
 
 -- ---- rows
 
@@ -19,14 +19,6 @@ rows_split (suc n) k file =
     (rows_split n k (drop 512 file)
     ∙ ap (λ (xs : List ℕ). rows_of n (drop 512 file) ++ rows_of k xs) (drop-drop (512 * n) 512 file ∙ ap (λ (j : ℕ). drop j file) further))
 
--- the rows from block k on: block k, and the rows after it
-pub rows_more : (n k : ℕ) (file : List ℕ) → k < n → rows_of (n - k) (drop (512 * k) file) ≡ block_at file k ∷ rows_of (n - (k + 1)) (drop (512 * (k + 1)) file)
-rows_more n k file within =
-    let e : n - k ≡ suc (n - (k + 1)) = omega arith in
-    let further : 512 * k + 512 ≡ 512 * (k + 1) = omega arith in
-    ap (λ (j : ℕ). rows_of j (drop (512 * k) file)) e
-    ∙ ap (λ (xs : List ℕ). block_at file k ∷ rows_of (n - (k + 1)) xs) (drop-drop 512 (512 * k) file ∙ ap (λ (j : ℕ). drop j file) further)
-
 -- the whole blocks of a file, as its chunks
 chunks_rows : (n : ℕ) (file : List ℕ) → first_chunks 512 n file ≡ rows_of n file
 chunks_rows zero file = refl
@@ -35,18 +27,6 @@ chunks_rows (suc n) file = ap (λ rows. take 512 file ∷ rows) (chunks_rows n (
 pub chunks_are : (file : List ℕ) (bs : List (List ℕ)) → bs ≡ first_chunks 512 (length file / 512) file → bs ≡ blocks_of file
 unfolding blocks_of
 chunks_are file bs cut = cut ∙ chunks_rows (length file / 512) file
-
--- a block among the chunks is a whole one
-chunk_at : (n k : ℕ) (file d : List ℕ) → k < n → get_or (first_chunks 512 n file) k d ≡ block_at file k
-chunk_at zero k file d less = absurd (omega arith)
-chunk_at (suc n) zero file d less = refl
-chunk_at (suc n) (suc k) file d less =
-    let further : 512 + 512 * k ≡ 512 * suc k = omega arith in
-    chunk_at n k (drop 512 file) d (omega arith) ∙ ap (take 512) (drop-drop (512 * k) 512 file ∙ ap (λ (j : ℕ). drop j file) further)
-
-pub chunk_size : (file : List ℕ) (bs : List (List ℕ)) (k : ℕ) (d : List ℕ) → bs ≡ first_chunks 512 (length file / 512) file → k < length file / 512 → length (get_or bs k d) ≡ 512
-chunk_size file bs k d cut less =
-    ap (λ cs. length (get_or cs k d)) cut ∙ ap length (chunk_at (length file / 512) k file d less) ∙ block_size file k (omega (arith, less))
 
 -- ---- data
 
@@ -126,9 +106,6 @@ rows_all k file good within short =
     let left = ap length (take_rest file (512 * k)) ∙ length-drop (512 * k) file in
     let all : 512 * k ≡ length file = omega (arith, size.whole, within, left, short) in
     rows_at_end k file (omega (arith, all))
-
-pub data_at_end : (kind k : ℕ) (file : List ℕ) → k ≡ length file / 512 → data_of kind (rows_of k file) ≡ data_of kind (blocks_of file)
-data_at_end kind k file end = ap (data_of kind) (rows_at_end k file end)
 
 -- ---- scanning
 

@@ -1,27 +1,39 @@
 // A whole file checked under an engine's subkey.
-ghost use Rattle.std.specs.Prelude.{◌≡◌, ◌-◌, ◌≤◌, length, take, drop, if◌then◌else◌, Ok, Err, nat_eq};
+ghost use Rattle.std.specs.Prelude.{◌≡◌, length, if◌then◌else◌, Ok, Err, IfOk, nat_eq};
 ghost use Rattle.field.specs.Digits.{numeral};
 ghost use Rattle.format.specs.Verdict.{Exact, verdict};
+ghost use Rattle.reading.specs.Sections.{IsCutOf, lengths_answer};
 ghost use Rattle.refusal.specs.declared.Refusal.TheVariants.{TagDiffers};
-ghost use Rattle.sealed.specs.Checking.{EngineAfter};
+ghost use Rattle.sealed.specs.Checking.{EngineAfter, first_pass_answer};
 
 use crate::handed::{Checked, Handed};
-use crate::hashing::hash_file;
+use crate::hashing::hash_sections;
 use engine::Engine;
 use field::Block;
-use format::{BLOCK_BYTES, DATA_AT, Lengths};
+use format::Lengths;
 use job::Closed;
-use message::block_of;
-use reading::first_pass;
+use message::{Part, block_of};
+use reading::{Sections, cut_file};
 use refusal::Refusal;
 
-// The tag that stands in a file's last block. No `From`: it is read from one place of a whole file.
-fn stored_tag(file: &[u8]) -> Block
-    requires { 512 ≤ length file.now }
-    ensures { result.bits ≡ numeral 256 (take 16 (drop 6 (drop (length file.now - 512) file.now))) }
+/// The sections of a file, where its header is within the limit of a message.
+fn first_pass(file: &[u8]) -> Result<Sections<'_>, Refusal>
+    ensures answer { lengths_answer result ≡ first_pass_answer file.now }
+    ensures sections { IfOk result (IsCutOf file.now) }
 {
-    let end = &file[file.len() - BLOCK_BYTES..];
-    block_of(&end[DATA_AT..])
+    let sections = cut_file(file)?;
+    if sections.lengths.header > Part::Header.limit() {
+        return Err(Part::Header.too_long());
+    }
+    Ok(sections)
+}
+
+/// The tag that the end block holds.
+fn stored_tag(bytes: &[u8]) -> Block
+    requires { length bytes.now ≡ 16 }
+    ensures { result.bits ≡ numeral 256 bytes.now }
+{
+    block_of(bytes)
 }
 
 fn compare_tags(stored: Block, tag: Block, lengths: Lengths) -> Result<Lengths, Refusal>
@@ -40,9 +52,9 @@ pub fn check_file<E: Engine>(engine: E, pad: Block, file: &[u8]) -> Checked<E>
     ensures exact { Exact (E.subkey_of engine) pad file.now result.answer }
     ensures engine { EngineAfter E.Engine engine file.now result.answer result.engine }
 {
-    // No `?`: it would not hand the engine back with the refusal.
-    let lengths = match first_pass(file) {
-        Ok(lengths) => lengths,
+    // A refusal hands the engine back too.
+    let sections = match first_pass(file) {
+        Ok(sections) => sections,
         Err(refusal) => {
             return Handed {
                 engine,
@@ -50,13 +62,19 @@ pub fn check_file<E: Engine>(engine: E, pad: Block, file: &[u8]) -> Checked<E>
             };
         }
     };
+    let Sections {
+        header,
+        body,
+        tag: stored,
+        lengths,
+    } = sections;
     let Closed {
         engine,
         hash: _,
         tag,
-    } = hash_file(engine, pad, file);
+    } = hash_sections(engine, pad, header, body);
     Handed {
         engine,
-        answer: compare_tags(stored_tag(file), tag, lengths),
+        answer: compare_tags(stored_tag(stored), tag, lengths),
     }
 }

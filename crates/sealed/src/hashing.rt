@@ -1,16 +1,16 @@
 // Whole jobs, on an engine that is moved in and handed back.
-ghost use Rattle.std.specs.Prelude.{◌≡◌, ◌≤◌, true, length};
-ghost use Rattle.format.specs.Faults.{body_in, header_in, is_size_good};
+ghost use Rattle.std.specs.Prelude.{◌≡◌, ◌≤◌, length};
 ghost use Rattle.message.specs.Limits.{header_limit, body_limit};
 ghost use Rattle.message.specs.Hash.{hash_of, tag_of};
+ghost use Rattle.reading.specs.Sections.{section_bytes};
 ghost use Rattle.tag.specs.Tags.{Ran};
 
 use crate::feeding::{Takes, feed_part};
 use engine::Engine;
 use field::Block;
-use format::Kind;
 use job::{Closed, HeaderJob};
 use message::Message;
+use reading::Section;
 
 // A whole message. The pad stays apart, since a job takes it only at its close.
 pub(crate) fn hash_parts<E: Engine>(engine: E, pad: Block, message: Message) -> Closed<E>
@@ -27,16 +27,22 @@ pub(crate) fn hash_parts<E: Engine>(engine: E, pad: Block, message: Message) -> 
     job.close(pad)
 }
 
-// What is read out of a file.
-pub(crate) fn hash_file<E: Engine>(engine: E, pad: Block, file: &[u8]) -> Closed<E>
-    requires size { is_size_good file.now ≡ true }
-    requires short { length (header_in file.now) ≤ header_limit }
-    ensures ran { Ran E.Engine engine (header_in file.now) (body_in file.now) result.engine }
-    ensures tag { result.tag ≡ tag_of (E.subkey_of engine) pad (header_in file.now) (body_in file.now) }
+/// The parts of a file, each from the blocks of its own.
+pub(crate) fn hash_sections<E: Engine>(
+    engine: E,
+    pad: Block,
+    header: Section,
+    body: Section,
+) -> Closed<E>
+    requires short { length (section_bytes header) ≤ header_limit }
+    requires few { length (section_bytes body) ≤ body_limit }
+    ensures ran { Ran E.Engine engine (section_bytes header.entry) (section_bytes body.entry) result.engine }
+    ensures tag { result.tag
+        ≡ tag_of (E.subkey_of engine) pad (section_bytes header.entry) (section_bytes body.entry) }
 {
     let mut job = HeaderJob::start(engine);
-    feed_part(&mut job, file, Kind::Header);
+    feed_part(&mut job, header);
     let mut job = job.turn();
-    feed_part(&mut job, file, Kind::Body);
+    feed_part(&mut job, body);
     job.close(pad)
 }

@@ -10,7 +10,7 @@ use Rattle.reading.specs.Scanning.{blocks_of_kind}
 use Rattle.reading.specs.Sections.{lengths_answer}
 use Rattle.reading.specs.Shapes.{previous_of}
 use Rattle.reading.proofs.Answering.{answer_fault, answer_no_end, answer_end}
-use Rattle.reading.proofs.InOrder.{header_cut, body_cut, header_within, body_within, last_end, data_joined}
+use Rattle.reading.proofs.InOrder.{header_cut, body_cut, header_within, body_within, last_end, data_of_blocks}
 use Rattle.reading.proofs.Scans.{chunks_are}
 use Rattle.reading.proofs.sections.cut_file.Goals as goal
 
@@ -20,7 +20,7 @@ is_end kind test = grind (arith, nat_tests)
 
 -- the bytes of a section, where its blocks are those of a kind
 of_kind : (kind : ℕ) (bs cs file_blocks : List (List ℕ)) → cs ≡ blocks_of_kind kind bs → bs ≡ file_blocks → concat (map data_in cs) ≡ data_of kind file_blocks
-of_kind kind bs cs file_blocks cut all = ap (λ (xs : List (List ℕ)). concat (map data_in xs)) cut ∙ sym (data_joined kind bs) ∙ ap (data_of kind) all
+of_kind kind bs cs file_blocks cut all = ap (λ (xs : List (List ℕ)). concat (map data_in xs)) cut ∙ sym (data_of_blocks kind bs) ∙ ap (data_of kind) all
 
 pub returns-in_err-scan-clause-answer : goal.returns-in_err-scan-clause-answer
 returns-in_err-scan-clause-answer c =

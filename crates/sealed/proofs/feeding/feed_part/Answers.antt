@@ -1,23 +1,28 @@
-use Rattle.std.proofs.Common.{◌≤◌, ℕ, List, length, take, subst, sym, ◌∙◌, arith}
-use Rattle.std.proofs.lemmas.List.{take_all}
-use Rattle.format.specs.Faults.{data_of}
-use Rattle.format.specs.Kinds.{number_of}
-use Rattle.reading.proofs.Scans.{chunks_are, data_next}
+use Rattle.std.proofs.Common.{ℕ, ◌+◌, ◌≤◌, List, length, Bor, sym, subst, arith}
+use Rattle.std.proofs.lemmas.Iterator.Consumers.{YieldsList-end, YieldsList-from_first, YieldsList-so_far, YieldsList-turn}
+use Rattle.std.specs.List.{concat}
+use Rattle.reading.specs.Sections.{section_pieces}
+use Rattle.reading.proofs.Pieces.{joined, joined_push, pieces_within}
 use Rattle.sealed.proofs.feeding.feed_part.Goals as goal
 
-pub loop-block-preserved : goal.loop-block-preserved
-loop-block-preserved g c =
+pub loop-piece-preserved : goal.loop-piece-preserved
+loop-piece-preserved g c =
     let t = g.J.Takes in
-    let kind : ℕ = number_of c.args.kind in
-    let bs = c.as_chunks.result.0.now in
-    let first = c.args.job.now in
-    let within = subst (λ cs. length (data_of kind cs) ≤ t.limit) (sym (chunks_are c.args.file.now bs c.as_chunks.ensures.front)) c.requires in
-    let next = data_next kind c.loop-block.block-index t.limit bs _ c.data_for.result.now c.loop-block-test.true within c.data_for.ensures in
-    subst (λ (bytes : List ℕ). t.fed first bytes c.take.new.self) next.1
-    (c.take.ensures first (data_of kind (take c.loop-block.block-index bs)) next.0 c.loop-block.invariant)
+    let pieces : List (List ℕ) = section_pieces c.args.part in
+    let chain = YieldsList-from_first (λ (x : Bor (List ℕ)). x.now) section_pieces {s = c.into_iter-piece-iterator.result} pieces cc in
+    let so_far = YieldsList-so_far chain c.loop-piece.yielded c.loop-piece.piece-iterator c.loop-piece.yielded_by in
+    let turn = YieldsList-turn chain c.loop-piece.yielded c.loop-piece.piece-iterator c.loop-piece.yielded_by _ c.next.new.self c.in-Some.piece c.in-Some.is c.next.ensures.steps in
+    let taken : List ℕ = joined c.loop-piece.yielded in
+    let within : length taken + length c.in-Some.piece.now ≤ t.limit = omega (arith, pieces_within pieces c.loop-piece.yielded c.in-Some.piece so_far turn, c.requires) in (
+      tt,
+      tt,
+      subst (λ (bytes : List ℕ). t.fed c.args.job.now bytes c.take.new.self) (sym (joined_push c.loop-piece.yielded c.in-Some.piece))
+          (c.take.ensures c.args.job.now taken within c.loop-piece.invariant.2),
+    )
 
 pub returns : goal.returns
 returns g c =
-    let bs = c.as_chunks.result.0.now in
-    let end = take_all c.loop-block.block-index bs (omega arith) ∙ chunks_are c.args.file.now bs c.as_chunks.ensures.front in
-    subst (λ cs. g.J.Takes.fed c.args.job.now (data_of (number_of c.args.kind) cs) c.loop-block.job) end c.loop-block.invariant
+    let pieces : List (List ℕ) = section_pieces c.args.part in
+    let chain = YieldsList-from_first (λ (x : Bor (List ℕ)). x.now) section_pieces {s = c.into_iter-piece-iterator.result} pieces cc in
+    let end = YieldsList-end chain c.loop-piece.yielded c.loop-piece.piece-iterator c.loop-piece.yielded_by _ c.next.new.self c.in-None.is c.next.ensures.steps in
+    subst (λ (ps : List (List ℕ)). g.J.Takes.fed c.args.job.now (concat ps) c.loop-piece.job) end.0 c.loop-piece.invariant.2

@@ -1,7 +1,8 @@
-use Rattle.std.proofs.Common.{take}
-use Rattle.format.specs.Faults.{data_of}
-use Rattle.format.specs.Kinds.{number_of}
+use Rattle.reading.proofs.Pieces.{joined}
 use Rattle.sealed.proofs.feeding.feed_part.Given as goal
 
-abbrev pub invariant-loop-block : goal.invariant-loop-block
-invariant-loop-block g l = g.J.Takes.fed l.initial.job (data_of (number_of l.fn.kind) (take l.block-index l.blocks)) l.job
+abbrev pub invariant-loop-piece : goal.invariant-loop-piece
+invariant-loop-piece g l =
+    (goal.iterator-loop-piece g).can_next l.piece-iterator ×
+    (goal.iterator-loop-piece g).is_finite l.piece-iterator ×
+    g.J.Takes.fed l.initial.job (joined l.yielded) l.job

@@ -1,12 +1,7 @@
-use Rattle.std.proofs.Common.{ℕ, List, arith}
-use Rattle.format.specs.Faults.{header_in, body_in}
-use Rattle.reading.proofs.Places.{sized}
+use Rattle.std.proofs.Common.{ℕ, List}
+use Rattle.reading.specs.Sections.{section_bytes}
 use Rattle.sealed.proofs.Running.{body_none, header_none, ran_whole}
-use Rattle.reading.proofs.Scans.{data_in_file}
-use Rattle.sealed.proofs.hashing.hash_file.Goals as goal
-
-pub feed_part-requires-2 : goal.feed_part-requires-2
-feed_part-requires-2 g c = let file : List ℕ = c.args.file.now in omega (arith, data_in_file 2 file, (sized file c.requires.size).few)
+use Rattle.sealed.proofs.hashing.hash_sections.Goals as goal
 
 pub returns : goal.returns
 returns g c =
@@ -14,8 +9,8 @@ returns g c =
     let engine = c.args.engine in
     let h = m.subkey_of engine in
     let given = m.ready_of engine in
-    let header : List ℕ = header_in c.args.file.now in
-    let body : List ℕ = body_in c.args.file.now in
+    let header : List ℕ = section_bytes c.args.header in
+    let body : List ℕ = section_bytes c.args.body in
     let s = c.start-job.result in
     let j = c.feed_part.new.job in
     let b = c.turn-job.result in
