@@ -5,7 +5,7 @@ use Rattle.std.proofs.lemmas.List.{drop-drop, drop_more, take_all, take_more, ta
 use Rattle.std.specs.Simd.{first_chunks}
 use Rattle.refusal.specs.declared.Refusal.{Refusal}
 use Rattle.format.specs.Faults.{Previous, previous, kind_in, used_in, data_in, is_size_good, rows_of, block_at, blocks_of, on_fault, fault_of, scanned, data_of}
-use Rattle.reading.proofs.Places.{block_size, sized}
+use Rattle.reading.proofs.Places.{sized}
 
 -- ---- rows
 

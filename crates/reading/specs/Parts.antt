@@ -1,9 +1,10 @@
 -- The parts of a file, read into two buffers.
-use Rattle.std.specs.Prelude.{◌≡◌, ℕ, cond, ◌&&◌, List, ◌++◌, length, drop, Ok, Err, Result, nat_le}
+use Rattle.std.specs.Prelude.{◌≡◌, ℕ, cond, ◌&&◌, List, Ok, Err, Result, nat_le}
 use Rattle.refusal.specs.declared.Refusal.{Refusal}
 use Rattle.refusal.specs.declared.Refusal.TheVariants.{OutputTooShort}
 use Rattle.format.specs.Verdict.{after, scan_answer}
 use Rattle.format.specs.declared.lengths.Lengths.{Lengths}
+use Rattle.reading.specs.Sections.{OverwritesFront}
 
 -- what the scan of the file answers, and then whether each part fits its buffer
 abbrev pub parts_answer : List ℕ → ℕ → ℕ → Result Lengths Refusal
@@ -11,7 +12,7 @@ parts_answer file header body =
     after (scan_answer file)
     (λ lengths. cond (nat_le lengths.header header && nat_le lengths.body body) (Ok lengths) (Err OutputTooShort))
 
--- A buffer before and after: the part stands at its front and the rest is as it was, or all is as it was where the answer is a refusal.
+-- A buffer before and after: the part stands at its front, or all is as it was where the answer is a refusal.
 abbrev pub Receives : Result Lengths Refusal → List ℕ → List ℕ → List ℕ → Type 0
-Receives (Ok lengths) part old new = new ≡ part ++ drop (length part) old
+Receives (Ok lengths) part old new = OverwritesFront part old new
 Receives (Err e) part old new = new ≡ old

@@ -65,17 +65,21 @@ Read file k t (Ok None) = (wrong_at file k ≡ None) × (512 * k ≡ length file
 Read file k t (Ok (Some i)) = (wrong_at file k ≡ None) × (512 * suc k ≤ length file) × Taken file k i × (t ≡ suc k)
 Read file k t (Err e) = (wrong_at file k ≡ Some e) × (t ≡ k)
 
--- what a record brings to the part of a kind
-abbrev pub brought : ℕ → Record → List ℕ
-brought kind r = cond (kind_of r == kind) (data_held r) []
+-- what a record adds to the part of a kind
+abbrev pub piece_for : ℕ → Record → List ℕ
+piece_for kind r = cond (kind_of r == kind) (data_held r) []
 
 -- the data of a kind in the first n blocks of a file
 abbrev pub data_before : ℕ → ℕ → List ℕ → List ℕ
 data_before kind n file = data_of kind (rows_of n file)
 
--- One call of a reader that has read k blocks: the data of each part in one block more is that in k blocks joined with what the record
--- brings; and where there is no record, the first k blocks are all that the file has. A refusal says nothing of the data.
+-- the data of a kind in one block more than k are those in k blocks, and what the record adds
+abbrev pub IsNextPiece : ℕ → List ℕ → ℕ → Record → Type 0
+IsNextPiece kind file k r = data_before kind (suc k) file ≡ data_before kind k file ++ piece_for kind r
+
+-- One call of a reader that has read k blocks: the record adds to both parts what block k does; and where there is no record, the first
+-- k blocks are all that the file has. A refusal says nothing of the data.
 abbrev pub Joins : List ℕ → ℕ → Result (Option Item) Refusal → Type 0
 Joins file k (Ok None) = rows_of k file ≡ blocks_of file
-Joins file k (Ok (Some i)) = (data_before 1 (suc k) file ≡ data_before 1 k file ++ brought 1 i.record) × (data_before 2 (suc k) file ≡ data_before 2 k file ++ brought 2 i.record)
+Joins file k (Ok (Some i)) = IsNextPiece 1 file k i.record × IsNextPiece 2 file k i.record
 Joins file k (Err e) = Unit {0}

@@ -1,5 +1,5 @@
 -- A file cut where its parts begin and end.
-use Rattle.std.specs.Prelude.{◌≡◌, ℕ, List, map, length, Ok, Err, Result}
+use Rattle.std.specs.Prelude.{◌≡◌, ℕ, List, ◌++◌, map, length, drop, Ok, Err, Result}
 use Rattle.std.specs.List.{concat}
 use Rattle.refusal.specs.declared.Refusal.{Refusal}
 use Rattle.format.specs.Faults.{data_in, header_in, body_in, tag_in}
@@ -14,6 +14,10 @@ section_pieces s = map data_in s.blocks.now
 -- all data of a section
 abbrev pub section_bytes : Section → List ℕ
 section_bytes s = concat (section_pieces s)
+
+-- A buffer before and after: the bytes stand at its front, and the rest is as it was.
+abbrev pub OverwritesFront : List ℕ → List ℕ → List ℕ → Type 0
+OverwritesFront bytes old new = new ≡ bytes ++ drop (length bytes) old
 
 -- The sections of a file: each part of it in the blocks of its own, and the tag of the end block.
 pub record IsCutOf (file : List ℕ) (s : Sections) : Type 0 where

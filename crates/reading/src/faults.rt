@@ -62,7 +62,7 @@ fn shape_of(prefix: Prefix) -> Option<Shape>
     Some(Shape { kind, used })
 }
 
-// The check that stands in the block's last four bytes. No `From`: a block is more than its check.
+// The check that stands in the block's last four bytes, high byte first.
 fn stored_check(block: &[u8; BLOCK_BYTES]) -> u32
     ensures { result ≡ check_in block.now }
 {

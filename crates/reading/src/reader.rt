@@ -1,5 +1,4 @@
-// A file read record by record: a window on it, moved from block to block.
-// No `Iterator`: after a refusal it stays where it is, and would answer the same refusal for ever.
+// A file read record by record.
 ghost use Rattle.std.specs.Prelude.{◌≡◌, ◌*◌, ◌≤◌, length, take};
 ghost use Rattle.format.specs.Faults.{previous, previous_at};
 ghost use Rattle.format.specs.Kinds.{number_of};
@@ -13,6 +12,8 @@ use crate::shape::Shape;
 use format::{BLOCK_BYTES, Kind};
 use refusal::Refusal;
 
+/// A window on a file, moved from block to block. It answers a refusal again at every later call, so its `next` is a method of its own:
+/// a loop over an `Iterator` that does so would not end.
 #[derive(Drop)]
 pub struct Reader<'a> {
     pub(crate) file: &'a [u8],
@@ -25,7 +26,7 @@ pub struct Reader<'a> {
     ghost used: { (previous_of last).used ≡ (previous_at file.now place).used },
 }
 
-// No `From`: a record needs its data too.
+// The record of a block of this kind, with its data.
 fn record_of<'a>(kind: Kind, data: &'a [u8]) -> Record<'a>
     ensures kind { kind_of result ≡ number_of kind }
     ensures bytes { data_held result ≡ «data».now }
@@ -51,6 +52,7 @@ fn parse<'a>(left: &'a [u8], shape: Shape) -> (Record<'a>, &'a [u8])
 }
 
 impl<'a> Reader<'a> {
+    /// A reader before the first block.
     pub fn new(file: &'a [u8]) -> Reader<'a>
         ensures { (result.file.now ≡ file.now) × (result.place ≡ 0) }
     {
@@ -61,7 +63,7 @@ impl<'a> Reader<'a> {
         }
     }
 
-    // The next record, or none after the end; a refusal leaves the reader where it is.
+    /// The next record, or none after the end; a refusal leaves the reader where it is.
     #[tactic(auto, using(crate::proofs::Scans::rows_all))]
     pub fn next(&mut self) -> Result<Option<Item<'a>>, Refusal>
         ensures file { self.new.file.now ≡ self.old.file.now }

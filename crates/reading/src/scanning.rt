@@ -45,7 +45,6 @@ impl Scan {
         ensures { self.new ≡ scan_after self.old block }
     {
         self.last = Some(block);
-        // A plain match: which kind it is shows only here.
         match block.kind {
             Kind::Header => self.header.add(block.used),
             Kind::Body => self.body.add(block.used),

@@ -1,7 +1,7 @@
 // The blocks of one part.
-ghost use Rattle.std.specs.Prelude.{◌≡◌, ◌≤◌, ◌++◌, length, drop};
+ghost use Rattle.std.specs.Prelude.{◌≤◌, length};
 ghost use Rattle.std.specs.Iterator.{YieldsFirstRef, item_count};
-ghost use Rattle.reading.specs.Sections.{section_bytes, section_pieces};
+ghost use Rattle.reading.specs.Sections.{OverwritesFront, section_bytes, section_pieces};
 
 use crate::prefix::Prefix;
 use format::BLOCK_BYTES;
@@ -31,7 +31,7 @@ impl<'a> Section<'a> {
     /// Writes the part to the front of an output that has room for it, and leaves what stands after.
     pub(crate) fn copy_to(self, output: &mut [u8])
         requires room { length (section_bytes self) ≤ length output.old }
-        ensures { output.new ≡ section_bytes self.entry ++ drop (length (section_bytes self.entry)) output.old }
+        ensures { OverwritesFront (section_bytes self.entry) output.old output.new }
     {
         let mut at = 0;
         for piece in self {

@@ -1,8 +1,7 @@
-use Rattle.std.proofs.Common.{◌≡◌, ℕ, ◌≤◌, Bool, cond, eqb, List, length, IfErr, Ok, Err, Result, sym, ap, ◌∙◌, subst, ap₂, arith}
+use Rattle.std.proofs.Common.{◌≡◌, ℕ, Bool, cond, eqb, List, length, IfErr, Ok, Err, Result, sym, ap, ◌∙◌, subst, ap₂, arith}
 use Rattle.field.specs.Digits.{numeral}
 use Rattle.field.specs.declared.kinds.Block.{Block}
 use Rattle.message.specs.Hash.{tag_of}
-use Rattle.message.specs.Limits.{body_limit}
 use Rattle.refusal.specs.declared.Refusal.{Refusal}
 use Rattle.refusal.specs.declared.Refusal.TheVariants.{TagDiffers}
 use Rattle.format.specs.Faults.{header_in, body_in, tag_in}

@@ -1,4 +1,4 @@
-use Rattle.std.proofs.Common.{◌≡◌, ℕ, ◌+◌, ◌≤◌, List, map, length, Bor, sym, ap, subst, arith}
+use Rattle.std.proofs.Common.{ℕ, ◌+◌, ◌≤◌, List, length, Bor, sym, subst, arith}
 use Rattle.std.proofs.lemmas.Iterator.Consumers.{YieldsList-end, YieldsList-from_first, YieldsList-so_far, YieldsList-turn}
 use Rattle.std.specs.List.{concat}
 use Rattle.reading.specs.Sections.{section_pieces}
@@ -17,7 +17,7 @@ loop-piece-preserved g c =
       tt,
       tt,
       subst (λ (bytes : List ℕ). t.fed c.args.job.now bytes c.take.new.self) (sym (joined_push c.loop-piece.yielded c.in-Some.piece))
-      (c.take.ensures c.args.job.now taken within c.loop-piece.invariant.2),
+          (c.take.ensures c.args.job.now taken within c.loop-piece.invariant.2),
     )
 
 pub returns : goal.returns

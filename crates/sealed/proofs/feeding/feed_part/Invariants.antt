@@ -1,4 +1,3 @@
-use Rattle.std.proofs.Common.{◌≡◌}
 use Rattle.reading.proofs.Pieces.{joined}
 use Rattle.sealed.proofs.feeding.feed_part.Given as goal
 
