@@ -1,5 +1,6 @@
 // A file without fault, cut where its parts begin and end.
-ghost use Rattle.std.specs.Prelude.{◌≡◌, IfOk};
+ghost use Rattle.std.specs.Prelude.{◌≡◌, IfOk, IfErr};
+ghost use Rattle.format.specs.Flaws.{IsScanFault};
 ghost use Rattle.format.specs.Verdict.{scan_answer};
 ghost use Rattle.reading.specs.Sections.{IsCutOf, lengths_answer};
 
@@ -25,6 +26,7 @@ pub struct Sections<'a> {
 /// and one whose last block is no end block.
 pub fn cut_file(file: &[u8]) -> Result<Sections<'_>, Refusal>
     ensures answer { lengths_answer result ≡ scan_answer file.now }
+    ensures refused { IfErr result (IsScanFault file.now) }
     ensures sections { IfOk result (IsCutOf file.now) }
 {
     if !size_good(file) {

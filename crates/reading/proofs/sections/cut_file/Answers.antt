@@ -1,4 +1,4 @@
-use Rattle.std.proofs.Common.{◌≡◌, ℕ, ◌<◌, ◌≤◌, true, eqb, List, [], map, length, take, drop, get_or, Ok, Err, sym, ap, ◌∙◌, subst, arith}
+use Rattle.std.proofs.Common.{◌≡◌, ℕ, ◌<◌, ◌≤◌, true, eqb, List, [], map, length, take, drop, get_or, Result, IfErr, Ok, Err, sym, ap, ◌∙◌, subst, arith}
 use Rattle.std.proofs.lemmas.List.{length-take-le}
 use Rattle.std.proofs.lemmas.Result.{err_from_is_err_and}
 use Rattle.std.proofs.lemmas.Bool.Decides.{nat_tests}
@@ -7,7 +7,11 @@ use Rattle.refusal.specs.declared.Refusal.{Refusal}
 use Rattle.refusal.specs.declared.Refusal.TheVariants.{NoEnd}
 use Rattle.format.specs.Faults.{Previous, blocks_of, data_in, data_of, used_in, scanned, first}
 use Rattle.reading.specs.Scanning.{blocks_of_kind}
+use Rattle.format.specs.Flaws.{IsScanFault}
+use Rattle.format.specs.Verdict.{scan_answer}
+use Rattle.format.proofs.ScanFaults.{scan_fault}
 use Rattle.reading.specs.Sections.{lengths_answer}
+use Rattle.reading.specs.declared.sections.Sections.{Sections}
 use Rattle.reading.specs.Shapes.{previous_of}
 use Rattle.reading.proofs.Answering.{answer_fault, answer_no_end, answer_end}
 use Rattle.reading.proofs.InOrder.{header_cut, body_cut, header_within, body_within, last_end, data_of_blocks}
@@ -22,6 +26,11 @@ is_end kind test = grind (arith, nat_tests)
 of_kind : (kind : ℕ) (bs cs file_blocks : List (List ℕ)) → cs ≡ blocks_of_kind kind bs → bs ≡ file_blocks → concat (map data_in cs) ≡ data_of kind file_blocks
 of_kind kind bs cs file_blocks cut all = ap (λ (xs : List (List ℕ)). concat (map data_in xs)) cut ∙ sym (data_of_blocks kind bs) ∙ ap (data_of kind) all
 
+-- where the answer is that of the scan, a refusal is the first fault
+fault_told : (file : List ℕ) (r : Result Sections Refusal) → lengths_answer r ≡ scan_answer file → IfErr r (IsScanFault file)
+fault_told file (Ok s) same = tt
+fault_told file (Err e) same = scan_fault file e (sym same)
+
 pub returns-in_err-scan-clause-answer : goal.returns-in_err-scan-clause-answer
 returns-in_err-scan-clause-answer c =
     let file : List ℕ = c.args.file.now in
@@ -30,6 +39,9 @@ returns-in_err-scan-clause-answer c =
     ap lengths_answer (came.1 ∙ ap (λ (e : Refusal). Err e) came.2)
     ∙ sym (answer_fault file (sym c.if-not-size_good.ensures) c.in_err-scan.field-0.0 (ap (scanned 0 first) (sym all) ∙ c.in_err-scan.ensures))
 
+pub returns-in_err-scan-clause-refused : goal.returns-in_err-scan-clause-refused
+returns-in_err-scan-clause-refused c = fault_told c.args.file.now c.from_residual.result (returns-in_err-scan-clause-answer c)
+
 pub returns-then-not-has_end-clause-answer : goal.returns-then-not-has_end-clause-answer
 returns-then-not-has_end-clause-answer c =
     let file : List ℕ = c.args.file.now in
@@ -37,6 +49,10 @@ returns-then-not-has_end-clause-answer c =
     let none = sym c.has_end.ensures ∙ c.if-not-has_end.true in
     ap (λ (n : ℕ). Err (NoEnd n)) c.as_chunks.ensures.front_len
     ∙ sym (answer_no_end file (sym c.if-not-size_good.ensures) (previous_of c.in_ok-scan.scan.last) (ap (scanned 0 first) (sym all) ∙ c.in_ok-scan.ensures.0) none)
+
+pub returns-then-not-has_end-clause-refused : goal.returns-then-not-has_end-clause-refused
+returns-then-not-has_end-clause-refused c =
+    fault_told c.args.file.now (Err (NoEnd (length c.as_chunks.result.0.now))) (returns-then-not-has_end-clause-answer c)
 
 pub split_at-requires : goal.split_at-requires
 split_at-requires c =
@@ -83,6 +99,7 @@ returns c =
       answer =
           (λ i. Ok record { header = (said.1.bytes ∙ ap (λ (xs : List (List ℕ)). length (data_of 1 xs)) all) i; body = (said.2.bytes ∙ ap (λ (xs : List (List ℕ)). length (data_of 2 xs)) all) i })
           ∙ sym (answer_end file (sym c.if-not-size_good.ensures) last (ap (scanned 0 first) (sym all) ∙ said.0) test);
+      refused = tt;
       sections = record {
         header = of_kind 1 bs c.split_at.result.0.now (blocks_of file) (c.split_at.ensures.front ∙ header_cut bs last scan.header.blocks scan.body.blocks said.0 end said.1.blocks said.2.blocks) all;
         body = of_kind 2 bs c.split_at-2.result.0.now (blocks_of file) (c.split_at-2.ensures.front ∙ ap (take scan.body.blocks) c.split_at.ensures.back ∙ body_cut bs last scan.header.blocks scan.body.blocks said.0 end said.1.blocks said.2.blocks) all;
