@@ -1,10 +1,11 @@
 // The commands `seal`, `check`, `list` and `open`: sealed files.
-use crate::flight::{Flight, Key};
+use crate::flight::{Files, Flight, Key};
 use crate::stop::{Argument, Stop};
 use crate::words::{Hex, exactly};
-use format::{BLOCK_BYTES, LARGEST_FILE, blocks_for};
+use format::{BLOCK_BYTES, LARGEST_FILE, Lengths, blocks_for};
 use message::Message;
-use sealed::{Reader, Record, Sealed, check_file, read_parts, write_file};
+use reading::{Reader, Record};
+use sealed::{Sealed, check_file, write_file};
 use std::io::IsTerminal;
 use std::iter;
 
@@ -57,22 +58,22 @@ pub(crate) fn seal_files(rt: &HostRuntime, words: &[String]) -> Result<(), Stop>
     Ok(())
 }
 
-// Prints the lengths of both parts of a file that is accepted.
-fn print_checked(rt: &HostRuntime, key: Key, file: &[u8]) -> Result<(), Stop> {
+// Prints the lengths of both parts of a file that is accepted, and answers them.
+fn print_checked(rt: &HostRuntime, key: Key, file: &[u8]) -> Result<Lengths, Stop> {
     say(rt, file.len(), "checking")?;
     let lengths = check_file(key.step(), key.pad, file).answer?;
     println!(rt;
         "accepted: header {} bytes, body {} bytes",
         lengths.header, lengths.body
     )?;
-    Ok(())
+    Ok(lengths)
 }
 
 pub(crate) fn check_sealed(rt: &HostRuntime, words: &[String]) -> Result<(), Stop> {
     let [subkey, pad, file] = exactly::<3>(words)?;
     let key = Key::read(subkey, pad)?;
-    let file = Argument::File.read_bytes(rt, file)?;
-    print_checked(rt, key, &file)
+    print_checked(rt, key, &Argument::File.read_bytes(rt, file)?)?;
+    Ok(())
 }
 
 fn print_record(rt: &HostRuntime, place: u32, record: Record) -> Result<(), Stop> {
@@ -106,8 +107,8 @@ pub(crate) fn open_file(rt: &HostRuntime, words: &[String]) -> Result<(), Stop> 
     let [subkey, pad, file, header, body] = exactly::<5>(words)?;
     let key = Key::read(subkey, pad)?;
     let file = Argument::File.read_bytes(rt, file)?;
-    print_checked(rt, key, &file)?;
-    let parts = read_parts(rt.alloc(), &file)?;
+    let lengths = print_checked(rt, key, &file)?;
+    let parts = Files::of_sealed(rt, lengths, &file)?;
     Argument::Header.write(rt, header, &parts.header)?;
     Argument::Body.write(rt, body, &parts.body)
 }

@@ -2,8 +2,9 @@
 use crate::stop::{Argument, Stop};
 use engine::Step;
 use field::Block;
+use format::Lengths;
 use message::Message;
-use sealed::Parts;
+use reading::read_parts;
 
 // A subkey and a pad, which are always given together.
 #[derive(Clone, Copy)]
@@ -25,14 +26,15 @@ impl Key {
     }
 }
 
-// The two files of a message. No `Parts`: those come of a sealed file.
-#[derive(Drop)]
+// The two parts of a message, in memory of the program's own.
+#[derive(Drop, PartialEq)]
 pub(crate) struct Files {
     pub(crate) header: Vec<u8>,
     pub(crate) body: Vec<u8>,
 }
 
 impl Files {
+    // Each from a file of its own.
     pub(crate) fn read(rt: &HostRuntime, header: &str, body: &str) -> Result<Files, Stop> {
         Ok(Files {
             header: Argument::Header.read_bytes(rt, header)?,
@@ -40,16 +42,23 @@ impl Files {
         })
     }
 
+    // Both from one sealed file, whose check answered how long they are.
+    pub(crate) fn of_sealed(
+        rt: &HostRuntime,
+        lengths: Lengths,
+        file: &[u8],
+    ) -> Result<Files, Stop> {
+        let mut header = vec![in rt.alloc(); 0u8; lengths.header as usize]?;
+        let mut body = vec![in rt.alloc(); 0u8; lengths.body as usize]?;
+        read_parts(file, &mut header, &mut body)?;
+        Ok(Files { header, body })
+    }
+
     pub(crate) fn message(&self) -> Message<'_> {
         Message {
             header: &self.header,
             body: &self.body,
         }
-    }
-
-    // Whether the parts of a sealed file are these. No derive: these are read from two files, and those from one.
-    pub(crate) fn are(&self, parts: &Parts) -> bool {
-        parts.header == self.header && parts.body == self.body
     }
 }
 

@@ -3,7 +3,7 @@ ghost use Rattle.std.specs.Prelude.{◌-◌};
 ghost use Rattle.std.specs.Iterator.{at_most};
 
 use crate::files::sealed_file;
-use crate::flight::Flight;
+use crate::flight::{Files, Flight};
 use crate::point::{Fault, Point};
 use crate::polynomials::{make_block, try_block};
 use crate::stop::{Argument, Check, Stop};
@@ -14,7 +14,7 @@ use job::{BodyJob, Closed, HeaderJob};
 use message::{Digest, Found, Message, Part, block_of, block_of_byte_counts};
 use polynomial::Accepted;
 use refusal::Refusal;
-use sealed::{check_file, read_parts};
+use sealed::check_file;
 use std::ops::Range;
 use tag::tag_message;
 
@@ -208,9 +208,9 @@ fn seal_flight(rt: &HostRuntime, flight: &Flight, out: &str) -> Result<(), Stop>
     let key = flight.key;
     let blocks = sealed_file(rt, flight, out)?.blocks;
     let file = Argument::Out.read_bytes(rt, out)?;
-    check_file(key.step(), key.pad, &file).answer?;
-    let parts = read_parts(rt.alloc(), &file)?;
-    Check::ReadBack.holds(flight.files.are(&parts))?;
+    let lengths = check_file(key.step(), key.pad, &file).answer?;
+    let parts = Files::of_sealed(rt, lengths, &file)?;
+    Check::ReadBack.holds(parts == flight.files)?;
     println!(rt; "{}: ok, {blocks} blocks in {out}", Point::Seal)?;
     Ok(())
 }

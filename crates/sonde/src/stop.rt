@@ -2,7 +2,6 @@
 use crate::script::LineFault;
 use hexadecimal::HexFault;
 use refusal::Refusal;
-use sealed::ReadFault;
 use std::alloc::AllocError;
 use std::{fmt, io};
 use thiserror::Error;
@@ -134,16 +133,6 @@ pub(crate) enum Stop {
     // Printing failed.
     #[error("{0}")]
     Failed(#[from] io::Error),
-}
-
-// By hand: such a fault is one of two stops, and the derive would make a third.
-impl From<ReadFault> for Stop {
-    fn from(fault: ReadFault) -> Stop {
-        match fault {
-            ReadFault::Refused(refusal) => Stop::Refused(refusal),
-            ReadFault::Memory => Stop::NoMemory(AllocError),
-        }
-    }
 }
 
 impl Stop {
