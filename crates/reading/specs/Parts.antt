@@ -10,9 +10,11 @@ use Rattle.reading.specs.Sections.{OverwritesFront}
 abbrev pub parts_answer : List ℕ → ℕ → ℕ → Result Lengths Refusal
 parts_answer file header body =
     after (scan_answer file)
-    (λ lengths. cond (nat_le lengths.header header && nat_le lengths.body body) (Ok lengths) (Err OutputTooShort))
+    (λ lengths.
+    cond (nat_le lengths.header header && nat_le lengths.body body) (Ok lengths)
+    (Err OutputTooShort))
 
--- A buffer before and after: the part stands at its front, or all is as it was where the answer is a refusal.
+-- A buffer before and after: the part stands at its front; after a refusal all is as it was.
 abbrev pub Receives : Result Lengths Refusal → List ℕ → List ℕ → List ℕ → Type 0
 Receives (Ok lengths) part old new = OverwritesFront part old new
 Receives (Err e) part old new = new ≡ old

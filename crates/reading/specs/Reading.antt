@@ -75,7 +75,8 @@ data_before kind n file = data_of kind (rows_of n file)
 
 -- the data of a kind in one block more than k are those in k blocks, and what the record adds
 abbrev pub IsNextPiece : ℕ → List ℕ → ℕ → Record → Type 0
-IsNextPiece kind file k r = data_before kind (suc k) file ≡ data_before kind k file ++ piece_for kind r
+IsNextPiece kind file k r =
+    data_before kind (suc k) file ≡ data_before kind k file ++ piece_for kind r
 
 -- One call of a reader that has read k blocks: the record adds to both parts what block k does; and where there is no record, the first
 -- k blocks are all that the file has. A refusal says nothing of the data.

@@ -31,5 +31,6 @@ pub record IsTallyOf (kind : ℕ) (bs : List (List ℕ)) (t : Tally) : Type 0 wh
 
 -- what all blocks say, or the first fault
 abbrev pub Scanned : List (List ℕ) → Result Scan Refusal → Type 0
-Scanned bs (Ok s) = (scanned 0 first bs ≡ Ok (previous_of s.last)) × IsTallyOf 1 bs s.header × IsTallyOf 2 bs s.body
+Scanned bs (Ok s) =
+    (scanned 0 first bs ≡ Ok (previous_of s.last)) × IsTallyOf 1 bs s.header × IsTallyOf 2 bs s.body
 Scanned bs (Err e) = scanned 0 first bs ≡ Err e
