@@ -10,7 +10,5 @@ use crate::encodes::Encodes;
 pub fn evaluate<E: Element + Copy, T: Encodes<E>>(key: E, start: E, items: &[T]) -> E
     ensures { result ≡ eval_from E.Element key start (map T.element items.now) }
 {
-    items
-        .iter()
-        .fold(start, |value, item| value.absorb(item.element(), key))
+    T::absorb_row(key, start, items)
 }
