@@ -1,5 +1,5 @@
 -- Numbers of two bytes weighed by the powers of a key and summed before one remainder, and rows taken in by groups.
-use Rattle.std.proofs.Common.{◌≡◌, ℕ, zero, suc, ◌+◌, ◌-◌, ◌*◌, ◌%◌, ◌^◌, List, [], ◌∷◌, ◌++◌, fold, length, map, take, drop, sym, refl, ap, ◌∙◌, ap₂, zero-mul, add_comm}
+use Rattle.std.proofs.Common.{◌≡◌, ℕ, zero, suc, ◌+◌, ◌-◌, ◌*◌, ◌%◌, ◌^◌, List, [], ◌∷◌, fold, length, map, take, drop, sym, refl, ap, ◌∙◌, ap₂, zero-mul, add_comm}
 use Rattle.std.proofs.Math.Nat.{mod-add-mod, add-mod-mod, suc-mul}
 use Rattle.std.proofs.lemmas.Nat.{mul-mod}
 use Rattle.std.proofs.lemmas.List.{drop-drop, map-append, take-append-drop}

@@ -12,8 +12,8 @@ pub trait Encodes<E: Element + Copy>: Sized {
     fn element(&self) -> E
         ensures { result ≡ element self.now };
 
-    /// The value after a row, whose items are taken in one by one, by Horner's rule, from the start on. What is so small that several
-    /// steps fit in one sum may take them together.
+    /// start·r^n + P1·r^n + P2·r^(n-1) + .. + Pn·r for the key r and n items. Items go in one by one, by Horner's rule; a kind whose
+    /// items are so small that several steps fit in one sum takes several together.
     fn absorb_row(key: E, start: E, items: &[Self]) -> E
         ensures { result ≡ eval_from E.Element key start (map element items.now) }
     {

@@ -1,4 +1,4 @@
-// The value of a row of elements at a key, written once for every kind.
+// The value of a row of elements at a key, one call for every kind.
 ghost use Rattle.std.specs.Prelude.{◌≡◌, map};
 ghost use Rattle.field.specs.Evaluation.{eval_from};
 

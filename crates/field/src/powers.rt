@@ -1,8 +1,8 @@
 // Numbers of two bytes taken in six at a time, with one remainder for six steps of Horner's rule.
 //
-// For the powers of a key r, six steps from a value v on come to (v·r^6 + a·r^6 + b·r^5 + c·r^4 + d·r^3 + e·r^2 + f·r). A value and
-// a power are below 2^31, and a number of two bytes is below 2^16: v·r^6 is below 2^62, each other product below 2^47, and so the
-// sum below 2^63. It fits in 64 bits as it is, and the remainder is taken at the end.
+// Six steps from a value v on, at a key r, come to v·r^6 + a·r^6 + b·r^5 + c·r^4 + d·r^3 + e·r^2 + f·r. A value and a power of the
+// key are below 2^31, and a number of two bytes is below 2^16: v·r^6 is below 2^62 and each other product below 2^47, so that the sum
+// stays below 2^63. It fits in 64 bits as it stands, and one remainder at its end serves all six.
 ghost use Rattle.std.specs.Prelude.{◌≡◌, ◌*◌, ◌^◌, ◌<◌, map};
 ghost use Rattle.field.specs.Bytes.{word_of};
 ghost use Rattle.field.specs.Digits.{numeral};
@@ -16,7 +16,7 @@ use crate::words::{number, remainder};
 // How many numbers a group has.
 pub(crate) const GROUP: usize = 6;
 
-// A key and its powers, up to as many as a group has numbers.
+// A key and its powers, one for each number of a group.
 #[derive(Drop)]
 pub(crate) struct Powers {
     first: Word,
@@ -59,7 +59,7 @@ impl Powers {
         }
     }
 
-    // The value after a group, from a value on.
+    // The value after six steps, one for each number of the group. The first number is multiplied by the key most often.
     pub(crate) fn absorb(&self, value: Word, group: &[[u8; 2]; GROUP]) -> Word
         ensures { result ≡ eval_from word_ring self.now.first value (map word_of group.now) }
     {

@@ -117,7 +117,7 @@ impl Encodes<Word> for [u8; 2] {
         Word::new(u32::from(number(self)))
     }
 
-    // By groups, then what is left one by one.
+    // A group at a time, and then one by one what is left.
     fn absorb_row(key: Word, start: Word, items: &[[u8; 2]]) -> Word {
         let powers = Powers::new(key);
         let (groups, rest) = items.as_chunks::<GROUP>();

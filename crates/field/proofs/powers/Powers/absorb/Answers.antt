@@ -4,7 +4,7 @@ use Rattle.field.specs.Digits.{numeral}
 use Rattle.field.specs.Evaluation.{power, eval_from}
 use Rattle.field.specs.Held.{entered_mod}
 use Rattle.field.specs.Instances.{word_held, word_ring_laws}
-use Rattle.field.specs.Kinds.{word, word_ring}
+use Rattle.field.specs.Kinds.{word_ring}
 use Rattle.field.specs.declared.kinds.Word.{Word}
 use Rattle.field.proofs.Digits.{spelled, spells_list}
 use Rattle.field.proofs.Groups.{weighed, word_from}

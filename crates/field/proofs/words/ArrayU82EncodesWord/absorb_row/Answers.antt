@@ -1,8 +1,7 @@
-use Rattle.std.proofs.Common.{◌≡◌, ℕ, ◌*◌, ◌/◌, List, fold, length, map, drop, sym, ap, ◌∙◌, ap₂, rules}
+use Rattle.std.proofs.Common.{◌≡◌, ℕ, ◌/◌, List, fold, length, map, sym, ap, ◌∙◌, ap₂, rules}
 use Rattle.std.proofs.lemmas.Iterator.{YieldsList-from_slice}
 use Rattle.std.proofs.lemmas.Iterator.Consumers.{fold_from_yields_List}
 use Rattle.std.proofs.lemmas.List.Folds.{fold-map}
-use Rattle.std.specs.Simd.{first_chunks}
 use Rattle.field.specs.Bytes.{word_of}
 use Rattle.field.specs.Evaluation.{eval_from, absorbed}
 use Rattle.field.specs.Instances.{word_ring_laws}
