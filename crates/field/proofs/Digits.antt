@@ -5,13 +5,16 @@ use lib.Arith.{digits_lt, digits_div, mod-mul}
 use Rattle.field.specs.Digits.{numeral, digits}
 
 -- a list, spelled out by its elements
-abbrev pub spelled : ℕ → (ℕ → ℕ) → List ℕ
+abbrev pub spelled : {X : Type 0} → ℕ → (ℕ → X) → List X
 spelled zero at = []
 spelled (suc n) at = at zero ∷ spelled n (λ k. at (suc k))
 
+pub spells_list : {X : Type 0} (none : X) (xs : List X) → xs ≡ spelled (length xs) (λ k. get_or xs k none)
+spells_list none [] = refl
+spells_list none (x ∷ xs) = ap (λ ys. x ∷ ys) (spells_list none xs)
+
 pub spells : (xs : List ℕ) → xs ≡ spelled (length xs) (λ k. get_or xs k 0)
-spells [] = refl
-spells (x ∷ xs) = ap (λ (ys : List ℕ). x ∷ ys) (spells xs)
+spells = spells_list 0
 
 pub length_digits : (base n v : ℕ) → length (digits base n v) ≡ n
 unfolding digits

@@ -8,6 +8,7 @@ mod encodes;
 mod evaluator;
 mod kinds;
 mod nibbles;
+mod powers;
 mod words;
 
 pub use element::Element;

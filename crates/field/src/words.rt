@@ -1,6 +1,7 @@
 // Words: in and out, sum and product.
 ghost use Rattle.std.specs.Prelude.{◌≡◌, ◌-◌, ◌*◌, ◌%◌, ◌^◌, ◌<◌, Some};
 ghost use Rattle.field.specs.Bytes.{word_of};
+ghost use Rattle.field.specs.Digits.{numeral};
 ghost use Rattle.field.specs.Kinds.{word, word_ring};
 ghost use Rattle.field.specs.Texts.{word_text};
 ghost use Rattle.field.specs.Instances.{word_ring_laws};
@@ -8,6 +9,7 @@ ghost use Rattle.field.specs.Instances.{word_ring_laws};
 use crate::element::Element;
 use crate::encodes::Encodes;
 use crate::kinds::Word;
+use crate::powers::{GROUP, Powers};
 use std::fmt;
 
 // 2^31 - 1, and so the mask of the 31 lowest bits too.
@@ -27,13 +29,20 @@ fn subtract_once(number: u32) -> u32
 
 // The remainder with no division. 2^31 leaves 1, so the bits from the 31st on count as a number of their own, which is added to
 // the 31 lowest.
-fn remainder(number: u64) -> u32
+pub(crate) fn remainder(number: u64) -> u32
     requires { number < 2 * (2 ^ 31 - 1) * 2 ^ 31 }
     ensures { result ≡ number % (2 ^ 31 - 1) }
 {
     let high = subtract_once((number >> 31) as u32);
     let low = (number & u64::from(MODULUS)) as u32;
     subtract_once(low + high)
+}
+
+// The number that two bytes write, the first byte highest.
+pub(crate) fn number(bytes: &[u8; 2]) -> u16
+    ensures { result ≡ numeral 256 bytes.now }
+{
+    u16::from_be_bytes(*bytes)
 }
 
 impl Word {
@@ -105,6 +114,17 @@ impl Encodes<Word> for [u8; 2] {
     ghost element = { word_of };
 
     fn element(&self) -> Word {
-        Word::new(u32::from(u16::from_be_bytes(*self)))
+        Word::new(u32::from(number(self)))
+    }
+
+    // A group at a time, and then one by one what is left.
+    fn absorb_row(key: Word, start: Word, items: &[[u8; 2]]) -> Word {
+        let powers = Powers::new(key);
+        let (groups, rest) = items.as_chunks::<GROUP>();
+        let whole = groups
+            .iter()
+            .fold(start, |value, group| powers.absorb(value, group));
+        rest.iter()
+            .fold(whole, |value, item| value.absorb(item.element(), key))
     }
 }

@@ -1,0 +1,12 @@
+use Rattle.std.proofs.Common.{◌≡◌, ℕ, length, get_or, sym, ap, ◌∙◌, arith, rules}
+use Rattle.field.specs.Digits.{numeral}
+use Rattle.field.proofs.Digits.{spelled, spells}
+use Rattle.field.proofs.words.number.Goals as goal
+
+pub returns : goal.returns
+unfolding numeral
+returns c =
+    let at : ℕ → ℕ = λ k. get_or c.args.bytes.now k 0 in
+    let long : length c.args.bytes.now ≡ 2 = search rules in
+    let summed : c.from_be_bytes.result ≡ numeral 256 (spelled 2 at) = omega arith in
+    summed ∙ ap (numeral 256) (sym (spells c.args.bytes.now ∙ ap (λ (n : ℕ). spelled n at) long))
