@@ -8,5 +8,6 @@ unfolding numeral
 returns c =
     let at : ℕ → ℕ = λ k. get_or c.args.bytes.now k 0 in
     let long : length c.args.bytes.now ≡ 2 = search rules in
-    let summed : c.from_be_bytes.result ≡ numeral 256 (spelled 2 at) = omega arith in
-    summed ∙ ap (numeral 256) (sym (spells c.args.bytes.now ∙ ap (λ (n : ℕ). spelled n at) long))
+    let spelt : numeral 256 (spelled 2 at) ≡ numeral 256 c.args.bytes.now =
+    ap (numeral 256) (sym (spells c.args.bytes.now ∙ ap (λ (n : ℕ). spelled n at) long)) in
+    omega (arith, spelt)
