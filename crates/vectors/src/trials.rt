@@ -72,6 +72,9 @@ pub(crate) fn print_made(rt: &HostRuntime, subkey: Block) -> Result<(), Fault> {
     let mut scratch = [Block::zero(); 128];
     let made = make_polynomial(subkey, &mut scratch)?;
     let trial = try_polynomial(subkey, made, &mut scratch)?;
-    println!(rt; "maker {subkey}: {made} accepted, weight {}", trial.weight())?;
+    println!(rt;
+        "maker {subkey}: {made} accepted, weight {}",
+        trial.weight()
+    )?;
     Ok(())
 }
