@@ -132,14 +132,15 @@ digits, or @ and the name of a file; a line that begins with # is a comment.
 TAG is 8 to 32 hexadecimal digits, SCRIPT the name of a file; where BODY is read, - is standard input;
 SUBKEY, PAD and PROPOSAL are 32 hexadecimal digits each, HEADER and BODY names of files";
 
+const EACH: &str = "  sonde each COMMAND.. then COMMAND..
+        commands one after another, the word `then` between them
+  sonde --help, sonde COMMAND --help";
+
 // How all of them are used.
 pub(crate) fn print_usage(rt: &HostRuntime) -> io::Result<()> {
     println!(rt; "usage:")?;
     for command in Command::ALL {
         println!(rt; "{command}")?;
     }
-    println!(rt; "  sonde each COMMAND.. then COMMAND..")?;
-    println!(rt; "        commands one after another, the word `then` between them")?;
-    println!(rt; "  sonde --help, sonde COMMAND --help")?;
-    println!(rt; "{NOTES}")
+    println!(rt; "{EACH}\n{NOTES}")
 }

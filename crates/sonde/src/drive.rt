@@ -3,11 +3,13 @@ use crate::flight::Key;
 use crate::polynomials::accepted;
 use crate::script::{Asked, Script, Step};
 use crate::stop::{Argument, Stop};
+use crate::tagging::print_tag;
 use crate::words::exactly;
 use division::Division;
 use engine::{Pair, Side};
 use job::{Answer, Call, Calls, Closed, replay};
 use message::Part;
+use std::alloc::AllocError;
 use std::io;
 
 type Engines = Pair<engine::Step, Division>;
@@ -62,21 +64,41 @@ fn print_replay(rt: &HostRuntime, script: &Script, done: &Outcome) -> io::Result
         Side::Second => "division",
     };
     println!(rt; "closed: {header} bytes of header, {body} of body, the {running} engine runs")?;
-    println!(rt; "hash {}", done.closed.hash)?;
-    println!(rt; "tag {}", done.closed.tag)
+    print_tag(rt, done.closed.hash, done.closed.tag)
+}
+
+// The calls of a part, and a row as long for their answers.
+#[derive(Drop)]
+struct Rows<'a> {
+    calls: Vec<Call<'a>>,
+    answers: Vec<Answer>,
+}
+
+impl<'a> Rows<'a> {
+    fn of(rt: &HostRuntime, steps: &'a [Step]) -> Result<Rows<'a>, AllocError> {
+        Ok(Rows {
+            calls: steps.iter().map(Step::call).collect(rt.alloc())?,
+            answers: vec![in rt.alloc(); Ok(()); steps.len()]?,
+        })
+    }
 }
 
 // Drives a job through the script. The rows are as long as their calls, so every answer finds its place.
 fn run_script(rt: &HostRuntime, key: Key, script: &Script) -> Result<Outcome, Stop> {
-    let engines = Pair::new(key.step(), Division::new(accepted(key.subkey)?));
-    let header_calls: Vec<Call> = script.header.iter().map(Step::call).collect(rt.alloc())?;
-    let body_calls: Vec<Call> = script.body.iter().map(Step::call).collect(rt.alloc())?;
+    let polynomial = accepted(key.subkey)?;
+    let Rows {
+        calls: header_calls,
+        answers: mut header,
+    } = Rows::of(rt, &script.header)?;
+    let Rows {
+        calls: body_calls,
+        answers: mut body,
+    } = Rows::of(rt, &script.body)?;
     let calls = Calls {
         header: &header_calls,
         body: &body_calls,
     };
-    let mut header: Vec<Answer> = vec![in rt.alloc(); Ok(()); header_calls.len()]?;
-    let mut body: Vec<Answer> = vec![in rt.alloc(); Ok(()); body_calls.len()]?;
+    let engines = Pair::new(key.step(), Division::new(polynomial));
     let closed = replay(engines, calls, key.pad, &mut header, &mut body);
     Ok(Outcome {
         header,

@@ -1,13 +1,14 @@
 // The commands `seal`, `check`, `list` and `open`: sealed files.
 use crate::flight::{Files, Flight, Key};
 use crate::stop::{Argument, Stop};
+use crate::tagging::print_tag;
 use crate::words::{Hex, exactly};
 use format::{BLOCK_BYTES, LARGEST_FILE, Lengths, blocks_for};
 use message::Message;
 use reading::{Reader, Record};
 use sealed::{Sealed, check_file, write_file};
+use std::io;
 use std::io::IsTerminal;
-use std::iter;
 
 // From this many bytes on, a command says what it is at, where standard error is a terminal.
 const SLOW: usize = 1 << 20;
@@ -39,23 +40,20 @@ pub(crate) fn sealed_file(rt: &HostRuntime, flight: &Flight, out: &str) -> Resul
     Ok(sealed)
 }
 
+fn print_sealed(rt: &HostRuntime, message: Message, out: &str, sealed: Sealed) -> io::Result<()> {
+    let Message { header, body } = message;
+    println!(rt; "header {} bytes, body {} bytes", header.len(), body.len())?;
+    let blocks = sealed.blocks;
+    let bytes = u64::from(blocks).saturating_mul(BLOCK_BYTES as u64);
+    println!(rt; "file {out}: {bytes} bytes, {blocks} blocks")?;
+    print_tag(rt, sealed.hash, sealed.tag)
+}
+
 pub(crate) fn seal_files(rt: &HostRuntime, words: &[String]) -> Result<(), Stop> {
     let [subkey, pad, header, body, out] = exactly::<5>(words)?;
     let flight = Flight::read(rt, [subkey, pad, header, body], &[])?;
     let sealed = sealed_file(rt, &flight, out)?;
-    println!(rt;
-        "header {} bytes, body {} bytes",
-        flight.files.header.len(),
-        flight.files.body.len()
-    )?;
-    println!(rt;
-        "file {out}: {} bytes, {} blocks",
-        u64::from(sealed.blocks).saturating_mul(BLOCK_BYTES as u64),
-        sealed.blocks
-    )?;
-    println!(rt; "hash {}", sealed.hash)?;
-    println!(rt; "tag {}", sealed.tag)?;
-    Ok(())
+    Ok(print_sealed(rt, flight.files.message(), out, sealed)?)
 }
 
 // Prints the lengths of both parts of a file that is accepted, and answers them.
@@ -76,23 +74,22 @@ pub(crate) fn check_sealed(rt: &HostRuntime, words: &[String]) -> Result<(), Sto
     Ok(())
 }
 
-fn print_record(rt: &HostRuntime, place: u32, record: Record) -> Result<(), Stop> {
+fn print_record(rt: &HostRuntime, place: u32, record: Record) -> io::Result<()> {
     // A plain match: which record it is shows only here.
     match record {
-        Record::Header(data) => println!(rt; "block {place}: header, {} bytes", data.len())?,
-        Record::Body(data) => println!(rt; "block {place}: body, {} bytes", data.len())?,
-        Record::End(data) => println!(rt; "block {place}: end, tag {}", Hex(data))?,
+        Record::Header(data) => println!(rt; "block {place}: header, {} bytes", data.len()),
+        Record::Body(data) => println!(rt; "block {place}: body, {} bytes", data.len()),
+        Record::End(data) => println!(rt; "block {place}: end, tag {}", Hex(data)),
     }
-    Ok(())
 }
 
 // A line for each record.
 fn print_records(rt: &HostRuntime, file: &[u8]) -> Result<(), Stop> {
     let mut reader = Reader::new(file);
-    let items = iter::from_fn(|| reader.next().transpose());
     // No file has more than 65,536 blocks, and the range shows that the walk ends.
-    for (place, item) in (0..65_537u32).zip(items) {
-        print_record(rt, place, item?.record)?;
+    for place in 0..65_537u32 {
+        let Some(item) = reader.next()? else { break };
+        print_record(rt, place, item.record)?;
     }
     Ok(())
 }
@@ -102,13 +99,16 @@ pub(crate) fn list_file(rt: &HostRuntime, words: &[String]) -> Result<(), Stop> 
     print_records(rt, &Argument::File.read_bytes(rt, file)?)
 }
 
+// The parts of a file, once it is accepted.
+fn accepted_parts(rt: &HostRuntime, key: Key, file: &[u8]) -> Result<Files, Stop> {
+    let lengths = print_checked(rt, key, file)?;
+    Files::of_sealed(rt, lengths, file)
+}
+
 // Both parts are written out only after the check has passed.
 pub(crate) fn open_file(rt: &HostRuntime, words: &[String]) -> Result<(), Stop> {
     let [subkey, pad, file, header, body] = exactly::<5>(words)?;
     let key = Key::read(subkey, pad)?;
     let file = Argument::File.read_bytes(rt, file)?;
-    let lengths = print_checked(rt, key, &file)?;
-    let parts = Files::of_sealed(rt, lengths, &file)?;
-    Argument::Header.write(rt, header, &parts.header)?;
-    Argument::Body.write(rt, body, &parts.body)
+    accepted_parts(rt, key, &file)?.write(rt, header, body)
 }

@@ -54,6 +54,12 @@ impl Files {
         Ok(Files { header, body })
     }
 
+    // Writes each into a file of its own.
+    pub(crate) fn write(&self, rt: &HostRuntime, header: &str, body: &str) -> Result<(), Stop> {
+        Argument::Header.write(rt, header, &self.header)?;
+        Argument::Body.write(rt, body, &self.body)
+    }
+
     pub(crate) fn message(&self) -> Message<'_> {
         Message {
             header: &self.header,
@@ -83,7 +89,19 @@ impl Flight {
         Ok(())
     }
 
-    // The four words SUBKEY, PAD, HEADER and BODY, and then options, each with its value.
+    // Options, each with its value.
+    fn take_options(&mut self, options: &[String]) -> Result<(), Stop> {
+        // No fold: each option changes the flight, and may be wrong.
+        for option in options.chunks(2) {
+            let [name, value] = option else {
+                return Err(Stop::NoOption);
+            };
+            self.take_option(name, value)?;
+        }
+        Ok(())
+    }
+
+    // The four words SUBKEY, PAD, HEADER and BODY, and then options.
     pub(crate) fn read(
         rt: &HostRuntime,
         [subkey, pad, header, body]: [&String; 4],
@@ -95,13 +113,7 @@ impl Flight {
             proposal: None,
             cuts: Vec::new(rt.alloc()),
         };
-        // No fold: each option changes the flight, and may be wrong.
-        for option in options.chunks(2) {
-            let [name, value] = option else {
-                return Err(Stop::NoOption);
-            };
-            flight.take_option(name, value)?;
-        }
+        flight.take_options(options)?;
         Ok(flight)
     }
 }

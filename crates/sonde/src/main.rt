@@ -40,13 +40,17 @@ fn run_each(rt: &HostRuntime, words: &[String]) -> Result<(), Stop> {
 }
 
 // The first word is the program's own name.
-fn start(rt: &HostRuntime) -> Result<(), Stop> {
-    let words: Vec<String> = env::args(rt)?.collect(rt.alloc())?;
-    match words.as_slice() {
+fn run_words(rt: &HostRuntime, words: &[String]) -> Result<(), Stop> {
+    match words {
         [_name, each, rest @ ..] if each.as_str() == "each" => run_each(rt, rest),
         [_name, rest @ ..] => run(rt, rest),
         none => run(rt, none),
     }
+}
+
+fn start(rt: &HostRuntime) -> Result<(), Stop> {
+    let words: Vec<String> = env::args(rt)?.collect(rt.alloc())?;
+    run_words(rt, &words)
 }
 
 fn main(rt: HostRuntime) -> ExitCode {

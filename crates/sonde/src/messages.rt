@@ -2,25 +2,29 @@
 use crate::flight::{Files, Key};
 use crate::stop::{Argument, Stop};
 use crate::words::{Hex, exactly};
+use message::Message;
+use std::io;
 use tag::check_tag;
+
+// Compares the first bytes of a tag.
+fn print_compared(rt: &HostRuntime, key: Key, message: Message, given: &[u8]) -> Result<(), Stop> {
+    check_tag(&mut key.step(), key.pad, message, given)?;
+    println!(rt; "accepted, {} bytes of the tag", given.len())?;
+    Ok(())
+}
 
 pub(crate) fn check_files(rt: &HostRuntime, words: &[String]) -> Result<(), Stop> {
     let [subkey, pad, header, body, tag] = exactly::<5>(words)?;
     let key = Key::read(subkey, pad)?;
     let files = Files::read(rt, header, body)?;
     let given = Argument::Tag.parse_bytes(rt, tag)?;
-    check_tag(&mut key.step(), key.pad, files.message(), &given)?;
-    println!(rt; "accepted, {} bytes of the tag", given.len())?;
-    Ok(())
+    print_compared(rt, key, files.message(), &given)
 }
 
-pub(crate) fn find_in_files(rt: &HostRuntime, words: &[String]) -> Result<(), Stop> {
-    let [header, body, number] = exactly::<3>(words)?;
-    let files = Files::read(rt, header, body)?;
-    let number = Argument::Number.parse_number(number)?;
-    let Some(found) = files.message().find_block(number) else {
-        println!(rt; "no block {number}")?;
-        return Ok(());
+// Shows a block, or says that there is none.
+fn print_block(rt: &HostRuntime, message: Message, number: usize) -> io::Result<()> {
+    let Some(found) = message.find_block(number) else {
+        return println!(rt; "no block {number}");
     };
     println!(rt;
         "block {number}: {} at {}, {} bytes: {}",
@@ -28,6 +32,12 @@ pub(crate) fn find_in_files(rt: &HostRuntime, words: &[String]) -> Result<(), St
         found.offset,
         found.bytes.len(),
         Hex(found.bytes)
-    )?;
-    Ok(())
+    )
+}
+
+pub(crate) fn find_in_files(rt: &HostRuntime, words: &[String]) -> Result<(), Stop> {
+    let [header, body, number] = exactly::<3>(words)?;
+    let files = Files::read(rt, header, body)?;
+    let number = Argument::Number.parse_number(number)?;
+    Ok(print_block(rt, files.message(), number)?)
 }

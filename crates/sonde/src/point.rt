@@ -1,6 +1,6 @@
 // The points of the list before a launch.
 use crate::stop::Stop;
-use std::fmt;
+use std::{fmt, io};
 
 // A point of the list, by the beginning of its line.
 #[derive(Clone, Copy)]
@@ -31,6 +31,13 @@ impl fmt::Display for Point {
 pub(crate) struct Fault {
     pub(crate) point: Point,
     pub(crate) stop: Stop,
+}
+
+impl Fault {
+    pub(crate) fn print(&self, rt: &HostRuntime) -> io::Result<()> {
+        let Fault { point, stop } = self;
+        println!(rt; "{point}: {stop}\ndo not launch: {stop}")
+    }
 }
 
 impl Point {

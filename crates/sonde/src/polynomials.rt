@@ -22,19 +22,28 @@ pub(crate) fn try_block(subkey: Block, proposal: Block) -> Result<Trial<Block>, 
     Ok(try_polynomial(subkey, proposal, &mut scratch)?)
 }
 
-pub(crate) fn print_maker(rt: &HostRuntime, words: &[String]) -> Result<(), Stop> {
+// The maker's polynomial for the one word of a command.
+fn make_asked(words: &[String]) -> Result<Block, Stop> {
     let [subkey] = exactly::<1>(words)?;
-    let made = make_block(Argument::Subkey.parse_block(subkey)?)?;
-    println!(rt; "polynomial {made}")?;
-    println!(rt; "weight {}", made.weight())?;
+    make_block(Argument::Subkey.parse_block(subkey)?)
+}
+
+// The trial of a command's two words.
+fn try_asked(words: &[String]) -> Result<Trial<Block>, Stop> {
+    let [subkey, proposal] = exactly::<2>(words)?;
+    let subkey = Argument::Subkey.parse_block(subkey)?;
+    let proposal = Argument::Proposal.parse_block(proposal)?;
+    try_block(subkey, proposal)
+}
+
+pub(crate) fn print_maker(rt: &HostRuntime, words: &[String]) -> Result<(), Stop> {
+    let made = make_asked(words)?;
+    println!(rt; "polynomial {made}\nweight {}", made.weight())?;
     Ok(())
 }
 
 pub(crate) fn print_trial(rt: &HostRuntime, words: &[String]) -> Result<(), Stop> {
-    let [subkey, proposal] = exactly::<2>(words)?;
-    let subkey = Argument::Subkey.parse_block(subkey)?;
-    let proposal = Argument::Proposal.parse_block(proposal)?;
-    let trial = try_block(subkey, proposal)?;
+    let trial = try_asked(words)?;
     println!(rt; "accepted, weight {}", trial.weight())?;
     Ok(())
 }

@@ -3,7 +3,7 @@ ghost use Rattle.std.specs.Prelude.{◌-◌};
 ghost use Rattle.std.specs.Iterator.{at_most};
 
 use crate::files::sealed_file;
-use crate::flight::{Files, Flight};
+use crate::flight::{Files, Flight, Key};
 use crate::point::{Fault, Point};
 use crate::polynomials::{make_block, try_block};
 use crate::stop::{Argument, Check, Stop};
@@ -149,21 +149,63 @@ fn places(rt: &HostRuntime, flight: &Flight) -> Result<Vec<usize>, Stop> {
     Ok(places)
 }
 
-// 3: the body cut in two at each place.
-fn cut_flight(rt: &HostRuntime, flight: &Flight, tag: Block) -> Result<(), Stop> {
+// Whether the body cut in two at a place gives the same tag.
+fn try_cut(key: Key, message: Message, at: usize, tag: Block) -> Result<(), Stop> {
+    Check::CutPastEnd.holds(at <= message.body.len())?;
+    let closed = cut_job(key.step(), key.pad, message, at)?;
+    Check::Cut.holds(closed.tag == tag)?;
+    Ok(())
+}
+
+fn try_cuts(flight: &Flight, places: &[usize], tag: Block) -> Result<(), Stop> {
     let message = flight.files.message();
-    let places = places(rt, flight)?;
-    for at in &places {
-        Check::CutPastEnd.holds(*at <= message.body.len())?;
-        let closed = cut_job(flight.key.step(), flight.key.pad, message, *at)?;
-        Check::Cut.holds(closed.tag == tag)?;
+    for at in places {
+        try_cut(flight.key, message, *at, tag)?;
     }
     Check::Finder.holds(blocks_join(message))?;
+    Ok(())
+}
+
+// 3: the body cut in two at each place.
+fn cut_flight(rt: &HostRuntime, flight: &Flight, tag: Block) -> Result<(), Stop> {
+    let places = places(rt, flight)?;
+    try_cuts(flight, &places, tag)?;
     println!(rt;
         "{}: ok, {} cuts, each block in one segment",
         Point::Edges,
         places.len()
     )?;
+    Ok(())
+}
+
+// Whether a pair of both engines, switched past so many bytes of the body, runs on by the second and gives the same tag.
+fn try_switch(
+    key: Key,
+    polynomial: Accepted<Block>,
+    message: Message,
+    at: usize,
+    tag: Block,
+) -> Result<(), Stop> {
+    let pair = Pair::new(key.step(), Division::new(polynomial));
+    let closed = cut_job(pair, key.pad, message, at)?;
+    Check::Runs.holds(closed.engine.running() == Side::Second)?;
+    Check::Switch.holds(closed.tag == tag)?;
+    Ok(())
+}
+
+// Switches around the degree of the polynomial, which are counted in blocks from the header's front on.
+fn try_switches(key: Key, polynomial: Accepted<Block>, message: Message) -> Result<(), Stop> {
+    let tagged = tag_message(&mut key.step(), key.pad, message)?;
+    let header = message.header.len().div_ceil(16).saturating_mul(16);
+    for at in [126usize * 16, 127 * 16, 128 * 16, 128 * 16 + 7] {
+        try_switch(
+            key,
+            polynomial,
+            message,
+            at.saturating_sub(header),
+            tagged.tag,
+        )?;
+    }
     Ok(())
 }
 
@@ -173,7 +215,6 @@ fn switch_flight(
     flight: &Flight,
     polynomial: Accepted<Block>,
 ) -> Result<(), Stop> {
-    let key = flight.key;
     let mut body = flight.files.body.clone()?;
     let short = body.len() < PAST_DEGREE;
     body.resize(body.len().max(PAST_DEGREE), 0)?;
@@ -181,19 +222,7 @@ fn switch_flight(
         header: &flight.files.header,
         body: &body,
     };
-    let tagged = tag_message(&mut key.step(), key.pad, message)?;
-    let before = message.header.len().div_ceil(16);
-    for at in [126usize * 16, 127 * 16, 128 * 16, 128 * 16 + 7] {
-        let pair = Pair::new(key.step(), Division::new(polynomial));
-        let closed = cut_job(
-            pair,
-            key.pad,
-            message,
-            at.saturating_sub(before.saturating_mul(16)),
-        )?;
-        Check::Runs.holds(closed.engine.running() == Side::Second)?;
-        Check::Switch.holds(closed.tag == tagged.tag)?;
-    }
+    try_switches(flight.key, polynomial, message)?;
     let copy = if short {
         ", on a copy filled up to 2071 bytes"
     } else {
@@ -203,26 +232,36 @@ fn switch_flight(
     Ok(())
 }
 
-// 5: the file written, read again, checked, and its records compared with the flight.
-fn seal_flight(rt: &HostRuntime, flight: &Flight, out: &str) -> Result<(), Stop> {
+// Whether a file is accepted, and its parts are those of the flight.
+fn try_file(rt: &HostRuntime, flight: &Flight, file: &[u8]) -> Result<(), Stop> {
     let key = flight.key;
-    let blocks = sealed_file(rt, flight, out)?.blocks;
-    let file = Argument::Out.read_bytes(rt, out)?;
-    let lengths = check_file(key.step(), key.pad, &file).answer?;
-    let parts = Files::of_sealed(rt, lengths, &file)?;
+    let lengths = check_file(key.step(), key.pad, file).answer?;
+    let parts = Files::of_sealed(rt, lengths, file)?;
     Check::ReadBack.holds(parts == flight.files)?;
+    Ok(())
+}
+
+// 5: the file written, read again, checked, and its parts compared with the flight.
+fn seal_flight(rt: &HostRuntime, flight: &Flight, out: &str) -> Result<(), Stop> {
+    let blocks = sealed_file(rt, flight, out)?.blocks;
+    try_file(rt, flight, &Argument::Out.read_bytes(rt, out)?)?;
     println!(rt; "{}: ok, {blocks} blocks in {out}", Point::Seal)?;
     Ok(())
+}
+
+// Every point but the first, for a flight that is read.
+fn try_points(rt: &HostRuntime, flight: &Flight, out: &str) -> Result<(), Fault> {
+    let polynomial = Point::Polynomial.of(try_flight(rt, flight))?;
+    let tagged = Point::Job.of(hash_flight(rt, flight))?;
+    Point::Edges.of(cut_flight(rt, flight, tagged.tag))?;
+    Point::Switch.of(switch_flight(rt, flight, polynomial))?;
+    Point::Seal.of(seal_flight(rt, flight, out))
 }
 
 fn go_down(rt: &HostRuntime, words: [&String; 5], options: &[String]) -> Result<(), Fault> {
     let [subkey, pad, header, body, out] = words;
     let flight = Point::Flight.of(Flight::read(rt, [subkey, pad, header, body], options))?;
-    let polynomial = Point::Polynomial.of(try_flight(rt, &flight))?;
-    let tagged = Point::Job.of(hash_flight(rt, &flight))?;
-    Point::Edges.of(cut_flight(rt, &flight, tagged.tag))?;
-    Point::Switch.of(switch_flight(rt, &flight, polynomial))?;
-    Point::Seal.of(seal_flight(rt, &flight, out))
+    try_points(rt, &flight, out)
 }
 
 pub(crate) fn preflight(rt: &HostRuntime, words: &[String]) -> Result<(), Stop> {
@@ -238,8 +277,7 @@ pub(crate) fn preflight(rt: &HostRuntime, words: &[String]) -> Result<(), Stop> 
             Ok(())
         }
         Err(fault) => {
-            println!(rt; "{}: {}", fault.point, fault.stop)?;
-            println!(rt; "do not launch: {}", fault.stop)?;
+            fault.print(rt)?;
             Err(Stop::Grounded)
         }
     }

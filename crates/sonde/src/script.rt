@@ -85,21 +85,38 @@ fn piece_of_digits(rt: &HostRuntime, word: &str) -> Result<Vec<u8>, LineFault> {
     Ok(bytes)
 }
 
-// The bytes of the words that follow a feed's name, joined: hexadecimal digits, or `@` and the name of a file.
+// Hexadecimal digits, or `@` and the name of a file.
+fn piece_of_word(rt: &HostRuntime, word: &str) -> Result<Vec<u8>, LineFault> {
+    match word.strip_prefix('@') {
+        Some(name) => Ok(fs::read(rt, name)?),
+        None => piece_of_digits(rt, word),
+    }
+}
+
+// The bytes of the words that follow a feed's name, joined.
 fn piece_words(rt: &HostRuntime, words: &str) -> Result<Vec<u8>, LineFault> {
     let mut piece = Vec::new(rt.alloc());
     // No `try_fold`: each step may fail in three ways, and joins what it read to the piece.
     for word in words.split_whitespace() {
-        let bytes = match word.strip_prefix('@') {
-            Some(name) => fs::read(rt, name)?,
-            None => piece_of_digits(rt, word)?,
-        };
-        piece.extend_from_slice(&bytes)?;
+        piece.extend_from_slice(&piece_of_word(rt, word)?)?;
     }
     Ok(piece)
 }
 
 impl Line {
+    fn named(rt: &HostRuntime, name: &str, words: &str) -> Result<Line, LineFault> {
+        // A plain match: which call it is shows only here.
+        match name {
+            "header" => Ok(Line::Header(piece_words(rt, words)?)),
+            "body" => Ok(Line::Body(piece_words(rt, words)?)),
+            "switch" | "turn" | "close" if !words.is_empty() => Err(LineFault::WordTooMany),
+            "switch" => Ok(Line::Switch),
+            "turn" => Ok(Line::Turn),
+            "close" => Ok(Line::Close),
+            _ => Err(LineFault::NoSuchCall),
+        }
+    }
+
     // Empty lines and those that begin with `#` are none.
     fn parse(rt: &HostRuntime, text: &str) -> Result<Option<Line>, LineFault> {
         let text = text.trim_ascii();
@@ -107,17 +124,7 @@ impl Line {
             return Ok(None);
         }
         let (name, words) = text.split_once(' ').unwrap_or((text, ""));
-        // A plain match: which call it is shows only here.
-        let line = match name {
-            "header" => Line::Header(piece_words(rt, words)?),
-            "body" => Line::Body(piece_words(rt, words)?),
-            "switch" | "turn" | "close" if !words.is_empty() => return Err(LineFault::WordTooMany),
-            "switch" => Line::Switch,
-            "turn" => Line::Turn,
-            "close" => Line::Close,
-            _ => return Err(LineFault::NoSuchCall),
-        };
-        Ok(Some(line))
+        Ok(Some(Line::named(rt, name, words)?))
     }
 }
 
@@ -166,6 +173,16 @@ impl Reading {
             None => Ok(()),
         }
     }
+
+    // Every line, or the first that is wrong. Lines are counted from 1.
+    fn take_lines(&mut self, rt: &HostRuntime, text: &str) -> Result<(), Stop> {
+        // No fold: each line changes what was read, and may be wrong.
+        for (line, text) in (1usize..).zip(text.lines()) {
+            self.take_text(rt, line, text)
+                .map_err(|fault| Stop::BadLine { line, fault })?;
+        }
+        Ok(())
+    }
 }
 
 // A script that is whole.
@@ -185,12 +202,7 @@ impl Script {
             body: Vec::new(rt.alloc()),
             stage: Stage::Header,
         };
-        // Lines are counted from 1. No fold: each line changes the script, and may be wrong.
-        for (line, text) in (1usize..).zip(text.lines()) {
-            reading
-                .take_text(rt, line, text)
-                .map_err(|fault| Stop::BadLine { line, fault })?;
-        }
+        reading.take_lines(rt, text)?;
         let Reading {
             header,
             body,

@@ -3,7 +3,7 @@ use crate::script::LineFault;
 use hexadecimal::HexFault;
 use refusal::Refusal;
 use std::alloc::AllocError;
-use std::{fmt, io};
+use std::{error, fmt, io};
 use thiserror::Error;
 
 // An argument, by its name in the usage text.
@@ -62,23 +62,33 @@ impl fmt::Display for BadWord {
 }
 
 // A comparison of the list of a flight, by what it says where it fails.
-#[derive(Clone, Copy, Debug, Error)]
+#[derive(Clone, Copy, Debug)]
 pub(crate) enum Check {
-    #[error("the job's hash is not the one-shot's")]
     Job,
-    #[error("the finder's blocks are not those that are hashed")]
     Finder,
-    #[error("a cut changes the tag")]
     Cut,
-    #[error("a cut stands past the end of the body")]
     CutPastEnd,
-    #[error("a switch does not make the other engine run")]
     Runs,
-    #[error("a switch changes the tag")]
     Switch,
-    #[error("what is read back is not what was sealed")]
     ReadBack,
 }
+
+// By hand: a text alone, with nothing in it to lay out.
+impl fmt::Display for Check {
+    fn fmt<W: fmt::Write>(&self, f: &mut fmt::Formatter<W>) -> fmt::Result {
+        f.write_str(match self {
+            Check::Job => "the job's hash is not the one-shot's",
+            Check::Finder => "the finder's blocks are not those that are hashed",
+            Check::Cut => "a cut changes the tag",
+            Check::CutPastEnd => "a cut stands past the end of the body",
+            Check::Runs => "a switch does not make the other engine run",
+            Check::Switch => "a switch changes the tag",
+            Check::ReadBack => "what is read back is not what was sealed",
+        })
+    }
+}
+
+impl error::Error for Check {}
 
 impl Check {
     pub(crate) fn holds(self, agrees: bool) -> Result<(), Check> {
@@ -90,7 +100,7 @@ impl Check {
 #[derive(Debug, Drop, Error)]
 pub(crate) enum Stop {
     // The library refused the input.
-    #[error("{0}")]
+    #[error(transparent)]
     Refused(#[from] Refusal),
     #[error("{argument}: {word}")]
     BadHex {
@@ -123,7 +133,7 @@ pub(crate) enum Stop {
     #[error("no such option, or one without its value")]
     NoOption,
     // Two ways that must agree do not.
-    #[error("{0}")]
+    #[error(transparent)]
     Differs(#[from] Check),
     #[error("no memory")]
     NoMemory(#[from(alloc)] AllocError),
@@ -131,7 +141,7 @@ pub(crate) enum Stop {
     #[error("do not launch")]
     Grounded,
     // Printing failed.
-    #[error("{0}")]
+    #[error(transparent)]
     Failed(#[from] io::Error),
 }
 

@@ -5,7 +5,7 @@ use crate::jobs::print_jobs;
 use crate::trials::print_made;
 use field::Block;
 use hexadecimal::{parse_block, parse_bytes};
-use message::Message;
+use message::{Digest, Message};
 use std::alloc::Global;
 
 // What a case hashes, and by which key.
@@ -15,6 +15,9 @@ pub(crate) struct Case {
     pub(crate) header: Vec<u8>,
     pub(crate) body: Vec<u8>,
     pub(crate) pad: Block,
+    // What is published of it.
+    hash: Block,
+    pub(crate) tag: Block,
 }
 
 // A header or a body, where - stands for an empty one.
@@ -27,13 +30,25 @@ fn read_part(heap: Global, word: &str) -> Result<Vec<u8>, Fault> {
     Ok(bytes)
 }
 
+fn parse_blocks(first: &str, second: &str) -> Result<[Block; 2], Fault> {
+    Ok([parse_block(first)?, parse_block(second)?])
+}
+
 impl Case {
-    fn parse(heap: Global, [subkey, pad, header, body]: [&str; 4]) -> Result<Case, Fault> {
+    // The words of a line after its number.
+    fn parse(
+        heap: Global,
+        [subkey, pad, header, body, hash, tag]: [&str; 6],
+    ) -> Result<Case, Fault> {
+        let [subkey, pad] = parse_blocks(subkey, pad)?;
+        let [hash, tag] = parse_blocks(hash, tag)?;
         Ok(Case {
-            subkey: parse_block(subkey)?,
+            subkey,
             header: read_part(heap, header)?,
             body: read_part(heap, body)?,
-            pad: parse_block(pad)?,
+            pad,
+            hash,
+            tag,
         })
     }
 
@@ -45,27 +60,29 @@ impl Case {
     }
 }
 
-// Prints what a case gives and a polynomial for its subkey, and answers whether hash and tag are as published.
-// By jobs too, where more is asked for.
+// Prints what a case gives, by engines and by jobs too where more is asked for, and a polynomial for its subkey; answers whether
+// hash and tag are as published.
+fn print_case(rt: &HostRuntime, number: &str, case: &Case, more: bool) -> Result<bool, Fault> {
+    let Digest { hash, tag, .. } = case.message().hash_and_tag(case.subkey, case.pad)?;
+    // Part by part: a published case gives no count of blocks, which a digest has.
+    let same = hash == case.hash && tag == case.tag;
+    let verdict = if same { "as published" } else { "DIFFERS" };
+    println!(rt; "case {number}: hash {hash} tag {tag} {verdict}")?;
+    print_made(rt, case.subkey)?;
+    print_engines(rt, case, hash)?;
+    // What is asked for is known only at run time.
+    if more {
+        print_jobs(rt, case)?;
+    }
+    Ok(same)
+}
+
+// The case of a line of words.
 pub(crate) fn compare(rt: &HostRuntime, line: &str, more: bool) -> Result<bool, Fault> {
     let words: Vec<&str> = line.split_whitespace().collect(rt.alloc())?;
     let [number, subkey, pad, header, body, hash, tag] = words.as_slice() else {
         return Err(Fault::WrongCount);
     };
-    let case = Case::parse(rt.alloc(), [subkey, pad, header, body])?;
-    let digest = case.message().hash_and_tag(case.subkey, case.pad)?;
-    // Part by part: a published case gives no count of blocks, which a digest has.
-    let same = digest.hash == parse_block(hash)? && digest.tag == parse_block(tag)?;
-    let verdict = if same { "as published" } else { "DIFFERS" };
-    println!(rt;
-        "case {number}: hash {} tag {} {verdict}",
-        digest.hash, digest.tag
-    )?;
-    print_made(rt, case.subkey)?;
-    print_engines(rt, &case, digest.hash)?;
-    // What is asked for is known only at run time.
-    if more {
-        print_jobs(rt, &case, parse_block(tag)?)?;
-    }
-    Ok(same)
+    let case = Case::parse(rt.alloc(), [subkey, pad, header, body, hash, tag])?;
+    print_case(rt, number, &case, more)
 }

@@ -67,44 +67,42 @@ impl Feeding {
 
 impl Case {
     // Whether the tag is the published one, over both engines.
-    fn tags_agree(
-        &self,
-        feeding: Feeding,
-        polynomial: Accepted<Block>,
-        tag: Block,
-    ) -> Result<bool, Fault> {
+    fn tags_agree(&self, feeding: Feeding, polynomial: Accepted<Block>) -> Result<bool, Fault> {
         let step = || Step::new(self.subkey);
         let division = || Division::new(polynomial);
         let pair = Pair::new(step(), division());
         let pairs = Pair::new(Pair::new(division(), step()), Pair::new(step(), division()));
         let by_pair = feeding.close(pair, self.message())?;
         let by_pairs = feeding.close(pairs, self.message())?;
-        Ok(by_pair.tag == tag && by_pairs.tag == tag)
+        Ok(by_pair.tag == self.tag && by_pairs.tag == self.tag)
     }
 
-    // Whether the hashes of the body and of its complement differ by the hash of what they differ by: bytes of ones in the
-    // body's blocks, zeros in the header's and in the length block.
-    fn difference_agrees(&self, heap: Global) -> Result<bool, Fault> {
+    // By how much the hashes of the body and of its complement differ, each fed in pieces of its own.
+    fn difference(&self, heap: Global) -> Result<Block, AllocError> {
         let other: Vec<u8> = self.body.iter().map(|byte| !*byte).collect(heap)?;
+        let complement = message_of(&self.header, &other);
+        let pad = Block::zero();
+        let first = Feeding { heap, cut: 16, pad }.pieces(self.message())?;
+        let second = Feeding { heap, cut: 5, pad }.pieces(complement)?;
+        let step = || Step::new(self.subkey);
+        Ok(difference_of_runs(step(), first.calls(), step(), second.calls()))
+    }
+
+    // The hash of what the two bodies differ by: bytes of ones in the body's blocks, zeros in the header's and in the length block.
+    fn hash_of_ones(&self, heap: Global) -> Result<Block, AllocError> {
         let zeros = vec![in heap; 0u8; self.header.len()]?;
         let ones = vec![in heap; 255u8; self.body.len()]?;
-        let step = || Step::new(self.subkey);
-        let complement = message_of(&self.header, &other);
-        let feeding = |cut| Feeding {
-            heap,
-            cut,
-            pad: Block::zero(),
-        };
-        let first = feeding(16).pieces(self.message())?;
-        let second = feeding(5).pieces(complement)?;
-        let difference = difference_of_runs(step(), first.calls(), step(), second.calls());
         let blocks = blocks_of(heap, message_of(&zeros, &ones), Block::zero())?;
-        Ok(difference == hash(&mut step(), &blocks, 1))
+        Ok(hash(&mut Step::new(self.subkey), &blocks, 1))
+    }
+
+    fn difference_agrees(&self, heap: Global) -> Result<bool, AllocError> {
+        Ok(self.difference(heap)? == self.hash_of_ones(heap)?)
     }
 }
 
 // Prints whether the jobs of a published case end as published.
-pub(crate) fn print_jobs(rt: &HostRuntime, case: &Case, tag: Block) -> Result<(), Fault> {
+pub(crate) fn print_jobs(rt: &HostRuntime, case: &Case) -> Result<(), Fault> {
     let heap = rt.alloc();
     let polynomial = accepted(case.subkey)?;
     let mut agree = case.difference_agrees(heap)?;
@@ -112,7 +110,7 @@ pub(crate) fn print_jobs(rt: &HostRuntime, case: &Case, tag: Block) -> Result<()
     for cut in CUTS {
         let pad = case.pad;
         let feeding = Feeding { heap, cut, pad };
-        agree = case.tags_agree(feeding, polynomial, tag)? && agree;
+        agree = case.tags_agree(feeding, polynomial)? && agree;
     }
     let verdict = verdict(agree);
     println!(rt; "jobs {verdict}, cut every 1, 7, 15, 16 and 17 bytes")?;

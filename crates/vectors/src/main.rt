@@ -14,7 +14,7 @@ use fault::Fault;
 use field::{Block, Element};
 use files::print_files;
 use readings::{Readings, take_readings};
-use std::env;
+use std::{env, io};
 use trials::print_trials;
 
 // How many cases there are, and how many of them agree.
@@ -44,14 +44,13 @@ fn compare_all(rt: &HostRuntime, more: bool) -> Result<Score, Fault> {
     Ok(score)
 }
 
-fn print_readings(rt: &HostRuntime, r: &Readings) -> Result<(), Fault> {
+fn print_readings(rt: &HostRuntime, r: &Readings) -> io::Result<()> {
     println!(rt; "nibbles {} {}", r.nibble_product, r.nibble_value)?;
     println!(rt; "words {} {}", r.word_one, r.word_two)?;
     println!(rt; "block {}", r.block_value)?;
     println!(rt; "empty {} {}", r.empty_hash, r.empty_tag)?;
     println!(rt; "body only {}", r.body_only)?;
-    println!(rt; "header only {}", r.header_only)?;
-    Ok(())
+    println!(rt; "header only {}", r.header_only)
 }
 
 // The word `more` asks for jobs and sealed files besides.
