@@ -5,7 +5,7 @@ use Rattle.std.proofs.lemmas.List.FromFn.{filter_of_map_range_with_len_more}
 use Rattle.std.proofs.lemmas.List.{map-id, set_at, get_or_at, length_push}
 use Rattle.field.specs.Ring.{CommutativeRing}
 use Rattle.field.specs.declared.element.Element.{Ghosts}
-use Rattle.division.specs.Places.{ones_of, added}
+use Rattle.division.specs.Places.{one_places, sum_at_places}
 use Rattle.division.proofs.Reductions.{reduced}
 
 -- ---- the places
@@ -23,13 +23,13 @@ below_from bits j (suc n) limit e k lt =
     one_below (bits j) j limit (filter bits (range_with_len (j + 1) n)) (omega arith) (below_from bits (j + 1) n limit (omega arith)) k lt
 
 -- every place is below n
-pub ones_below : (n : ℕ) (bits : ℕ → Bool) (k : ℕ) → k < length (ones_of n bits) → get_or (ones_of n bits) k 0 < n
-unfolding ones_of
+pub ones_below : (n : ℕ) (bits : ℕ → Bool) (k : ℕ) → k < length (one_places n bits) → get_or (one_places n bits) k 0 < n
+unfolding one_places
 ones_below n bits = below_from bits 0 n n (omega arith)
 
 -- one coefficient more
-pub ones_more : (j : ℕ) (bits : ℕ → Bool) → ones_of (j + 1) bits ≡ ones_of j bits ++ cond (bits j) (j ∷ []) []
-unfolding ones_of
+pub ones_more : (j : ℕ) (bits : ℕ → Bool) → one_places (j + 1) bits ≡ one_places j bits ++ cond (bits j) (j ∷ []) []
+unfolding one_places
 ones_more j bits =
     ap (filter bits) (sym (map-id (range_with_len 0 (j + 1))))
     ∙ filter_of_map_range_with_len_more bits (λ k. k) 0 j j (omega arith)
@@ -44,8 +44,8 @@ short_from bits j zero = omega arith
 short_from bits j (suc n) = one_short (bits j) j n (filter bits (range_with_len (j + 1) n)) (short_from bits (j + 1) n)
 
 -- there are no more than n
-pub ones_short : (n : ℕ) (bits : ℕ → Bool) → length (ones_of n bits) ≤ n
-unfolding ones_of
+pub ones_short : (n : ℕ) (bits : ℕ → Bool) → length (one_places n bits) ≤ n
+unfolding one_places
 ones_short n bits = short_from bits 0 n
 
 -- ---- what is added
@@ -53,30 +53,30 @@ ones_short n bits = short_from bits 0 n
 module _ {K : Type 0} (m : Ghosts K) (laws : CommutativeRing m.zero m.one m.sum m.product) (top : K) (bits : ℕ → Bool) where
   -- the first of a part is dealt with, and the others are still to come
   one_place : (b : Bool) (j : ℕ) (ps : List ℕ) (front : List K) (below : K) (ws : List K) → length front ≡ j
-      → added m top (cond b (j ∷ ps) ps) (front ++ (below ∷ ws)) ≡ added m top ps ((front ++ (m.sum below (cond b top m.zero) ∷ [])) ++ ws)
+      → sum_at_places m top (cond b (j ∷ ps) ps) (front ++ (below ∷ ws)) ≡ sum_at_places m top ps ((front ++ (m.sum below (cond b top m.zero) ∷ [])) ++ ws)
   one_place true j ps front below ws long =
-      ap (added m top ps)
+      ap (sum_at_places m top ps)
       (ap (λ x. set (front ++ (below ∷ ws)) j (m.sum x top)) (get_or_at front below ws m.zero j long)
       ∙ set_at front below ws (m.sum below top) j long
       ∙ sym (append_assoc front (m.sum below top ∷ []) ws))
   one_place false j ps front below ws long =
-      ap (added m top ps)
+      ap (sum_at_places m top ps)
       (ap (λ x. front ++ (x ∷ ws)) (sym (laws.sum_zero below)) ∙ sym (append_assoc front (m.sum below m.zero ∷ []) ws))
 
-  added_from : (j n : ℕ) (front : List K) (below : K) (ws : List K) → length front ≡ j → length ws ≡ n
-      → added m top (filter bits (range_with_len j n)) (front ++ take n (below ∷ ws)) ≡ front ++ reduced m top bits j below ws
-  added_from j zero front below [] at long = refl
-  added_from j zero front below (w ∷ ws) at long = absurd (omega arith)
-  added_from j (suc n) front below [] at long = absurd (omega arith)
-  added_from j (suc n) front below (w ∷ ws) at long =
+  sum_at_from : (j n : ℕ) (front : List K) (below : K) (ws : List K) → length front ≡ j → length ws ≡ n
+      → sum_at_places m top (filter bits (range_with_len j n)) (front ++ take n (below ∷ ws)) ≡ front ++ reduced m top bits j below ws
+  sum_at_from j zero front below [] at long = refl
+  sum_at_from j zero front below (w ∷ ws) at long = absurd (omega arith)
+  sum_at_from j (suc n) front below [] at long = absurd (omega arith)
+  sum_at_from j (suc n) front below (w ∷ ws) at long =
       let here : K = m.sum below (cond (bits j) top m.zero) in
       one_place (bits j) j (filter bits (range_with_len (j + 1) n)) front below (take n (w ∷ ws)) at
-      ∙ added_from (j + 1) n (front ++ (here ∷ [])) w ws (length_push front here ∙ ap (λ k. k + 1) at) (omega arith)
+      ∙ sum_at_from (j + 1) n (front ++ (here ∷ [])) w ws (length_push front here ∙ ap (λ k. k + 1) at) (omega arith)
       ∙ append_assoc front (here ∷ []) (reduced m top bits (j + 1) w ws)
       ∙ ap (λ k. front ++ (here ∷ reduced m top bits k w ws)) (add-one j)
 
   -- every coefficient one place up, and `top` added at the ones
-  pub added_reduced : (n : ℕ) (ws : List K) → length ws ≡ n
-      → added m top (ones_of n bits) (take n (m.zero ∷ ws)) ≡ reduced m top bits 0 m.zero ws
-  unfolding ones_of
-  added_reduced n ws long = added_from 0 n [] m.zero ws refl long
+  pub sum_at_reduced : (n : ℕ) (ws : List K) → length ws ≡ n
+      → sum_at_places m top (one_places n bits) (take n (m.zero ∷ ws)) ≡ reduced m top bits 0 m.zero ws
+  unfolding one_places
+  sum_at_reduced n ws long = sum_at_from 0 n [] m.zero ws refl long

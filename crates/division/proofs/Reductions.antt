@@ -4,8 +4,8 @@ use Rattle.std.specs.List.{range_with_len}
 use Rattle.field.specs.Ring.{CommutativeRing}
 use Rattle.field.specs.declared.element.Element.{Ghosts}
 use Rattle.field.proofs.Horner.{product_zero}
-use Rattle.polynomial.specs.Polynomials.{element, stored}
-use Rattle.division.specs.Remainders.{sum_of, scaled, times_t, product_of, Divided}
+use Rattle.polynomial.specs.Polynomials.{element, coefficient_list}
+use Rattle.division.specs.Remainders.{sum_of, scalar_multiple, times_t, product_of, IsRemainder}
 
 -- each coefficient moves one place up, and `top` is added where the divisor has a one; `below` is the next that moves
 abbrev pub reduced : {K : Type 0} → Ghosts K → K → (ℕ → Bool) → ℕ → K → List K → List K
@@ -33,36 +33,36 @@ module _ {K : Type 0} (m : Ghosts K) (laws : CommutativeRing m.zero m.one m.sum 
   ones j n = map (λ k. element m (bits k)) (range_with_len j n)
 
   moved : (j : ℕ) (below : K) (ws : List K) → last_of below ws ≡ top
-      → below ∷ ws ≡ sum_of m (scaled m top (ones j (length ws) ++ (m.one ∷ []))) (reduced m top bits j below ws)
+      → below ∷ ws ≡ sum_of m (scalar_multiple m top (ones j (length ws) ++ (m.one ∷ []))) (reduced m top bits j below ws)
   moved j below [] last = ap (λ x. x ∷ []) (last ∙ sym (laws.product_one top))
   moved j below (w ∷ ws) last =
       ap₂ (λ x xs. x ∷ xs)
       (sym (ap (λ x. m.sum x (m.sum below (cond (bits j) top m.zero))) (chosen (bits j)) ∙ back (cond (bits j) top m.zero) below))
       (moved (suc j) w ws last
-      ∙ ap (λ n. sum_of m (scaled m top (ones n (length ws) ++ (m.one ∷ []))) (reduced m top bits (suc j) w ws)) (sym (add-one j)))
+      ∙ ap (λ n. sum_of m (scalar_multiple m top (ones n (length ws) ++ (m.one ∷ []))) (reduced m top bits (suc j) w ws)) (sym (add-one j)))
 
   sum_none : (cs : List K) → sum_of m cs [] ≡ cs
   sum_none [] = refl
   sum_none (c ∷ cs) = refl
 
   -- the constant `top` times a polynomial
-  constant_product : (xs : List K) (y : K) → product_of m (top ∷ []) (xs ++ (y ∷ [])) ≡ scaled m top (xs ++ (y ∷ []))
+  constant_product : (xs : List K) (y : K) → product_of m (top ∷ []) (xs ++ (y ∷ [])) ≡ scalar_multiple m top (xs ++ (y ∷ []))
   constant_product [] y = ap (λ x. x ∷ []) (laws.sum_zero (m.product top y))
   constant_product (x ∷ xs) y =
-      ap₂ (λ z zs. z ∷ zs) (laws.sum_zero (m.product top x)) (sum_none (scaled m top (xs ++ (y ∷ []))))
+      ap₂ (λ z zs. z ∷ zs) (laws.sum_zero (m.product top x)) (sum_none (scalar_multiple m top (xs ++ (y ∷ []))))
 
   length_reduced : (j : ℕ) (below : K) (ws : List K) → length (reduced m top bits j below ws) ≡ length ws
   length_reduced j below [] = refl
   length_reduced j below (w ∷ ws) = ap suc (length_reduced (suc j) w ws)
 
   pub reduced_divided : (ws : List K) (n : ℕ) → length ws ≡ n → last_of m.zero ws ≡ top
-      → Divided m (times_t m ws) (stored m n bits ++ (m.one ∷ [])) (reduced m top bits 0 m.zero ws) n
-  unfolding stored
+      → IsRemainder m (times_t m ws) (coefficient_list m n bits ++ (m.one ∷ [])) (reduced m top bits 0 m.zero ws) n
+  unfolding coefficient_list
   reduced_divided ws n long last = record {
     quotient = top ∷ [];
     whole =
         moved 0 m.zero ws last
-        ∙ ap (λ k. sum_of m (scaled m top (ones 0 k ++ (m.one ∷ []))) (reduced m top bits 0 m.zero ws)) long
+        ∙ ap (λ k. sum_of m (scalar_multiple m top (ones 0 k ++ (m.one ∷ []))) (reduced m top bits 0 m.zero ws)) long
         ∙ ap (λ cs. sum_of m cs (reduced m top bits 0 m.zero ws)) (sym (constant_product (ones 0 n) m.one));
     short = length_reduced 0 m.zero ws ∙ long;
   }

@@ -6,13 +6,13 @@ use Rattle.field.specs.Ring.{CommutativeRing}
 use Rattle.field.specs.Evaluation.{power}
 use Rattle.field.specs.declared.element.Element.{Ghosts}
 use Rattle.field.proofs.Horner.{zero_sum, sum_product, product_zero, zero_product}
-use Rattle.polynomial.specs.Polynomials.{value_from, value_at, element, stored, Annihilates}
+use Rattle.polynomial.specs.Polynomials.{value_from, value_at, element, coefficient_list, Annihilates}
 use Rattle.polynomial.proofs.Values.{value_push, one_product}
-use Rattle.division.specs.Remainders.{sum_of, scaled, times_t, product_of, Divided}
+use Rattle.division.specs.Remainders.{sum_of, scalar_multiple, times_t, product_of, IsRemainder}
 
-pub length_stored : {K : Type 0} (m : Ghosts K) (n : ℕ) (bits : ℕ → Bool) → length (stored m n bits) ≡ n
-unfolding stored
-length_stored m n bits = length-map-range_with_len (λ k. element m (bits k)) 0 n
+pub length_coefficients : {K : Type 0} (m : Ghosts K) (n : ℕ) (bits : ℕ → Bool) → length (coefficient_list m n bits) ≡ n
+unfolding coefficient_list
+length_coefficients m n bits = length-map-range_with_len (λ k. element m (bits k)) 0 n
 
 module _ {K : Type 0} (m : Ghosts K) (laws : CommutativeRing m.zero m.one m.sum m.product) (r : K) where
   four : (a b c d : K) → m.sum (m.sum a b) (m.sum c d) ≡ m.sum (m.sum a c) (m.sum b d)
@@ -28,10 +28,10 @@ module _ {K : Type 0} (m : Ghosts K) (laws : CommutativeRing m.zero m.one m.sum 
       ap₂ m.sum (sum_product m laws c d (power m r j)) (sum_value (suc j) cs ds)
       ∙ four (m.product c (power m r j)) (m.product d (power m r j)) (value_from m r (suc j) cs) (value_from m r (suc j) ds)
 
-  scaled_value : (j : ℕ) (c : K) (ds : List K) → value_from m r j (scaled m c ds) ≡ m.product c (value_from m r j ds)
-  scaled_value j c [] = sym (product_zero m laws c)
-  scaled_value j c (d ∷ ds) =
-      ap₂ m.sum (laws.product_assoc c d (power m r j)) (scaled_value (suc j) c ds)
+  multiple_value : (j : ℕ) (c : K) (ds : List K) → value_from m r j (scalar_multiple m c ds) ≡ m.product c (value_from m r j ds)
+  multiple_value j c [] = sym (product_zero m laws c)
+  multiple_value j c (d ∷ ds) =
+      ap₂ m.sum (laws.product_assoc c d (power m r j)) (multiple_value (suc j) c ds)
       ∙ sym (laws.product_sum c (m.product d (power m r j)) (value_from m r (suc j) ds))
 
   -- one power on
@@ -52,8 +52,8 @@ module _ {K : Type 0} (m : Ghosts K) (laws : CommutativeRing m.zero m.one m.sum 
   product_value (c ∷ cs) ds =
       let v : K = value_at m r ds in
       let w : K = value_at m r cs in
-      sum_value zero (scaled m c ds) (times_t m (product_of m cs ds))
-      ∙ ap₂ m.sum (scaled_value zero c ds)
+      sum_value zero (scalar_multiple m c ds) (times_t m (product_of m cs ds))
+      ∙ ap₂ m.sum (multiple_value zero c ds)
       (times_t_value (product_of m cs ds) ∙ ap (m.product r) (product_value cs ds) ∙ sym (laws.product_assoc r w v))
       ∙ sym (sum_product m laws c (m.product r w) v)
       ∙ ap (λ x. m.product x v) (ap₂ m.sum (sym (laws.product_one c)) (sym (shift_value zero cs)))
@@ -64,7 +64,7 @@ module _ {K : Type 0} (m : Ghosts K) (laws : CommutativeRing m.zero m.one m.sum 
       sum_value zero cs (p ∷ []) ∙ ap (m.sum (value_at m r cs)) (laws.sum_zero (m.product p m.one) ∙ laws.product_one p)
 
   -- where the divisor is zero at r, polynomial and remainder have one value
-  pub remainder_value : (polynomial divisor remainder : List K) (n : ℕ) → Divided m polynomial divisor remainder n
+  pub remainder_value : (polynomial divisor remainder : List K) (n : ℕ) → IsRemainder m polynomial divisor remainder n
       → value_at m r divisor ≡ m.zero → value_at m r remainder ≡ value_at m r polynomial
   remainder_value polynomial divisor remainder n divided vanishes =
       sym
@@ -103,10 +103,10 @@ module _ {K : Type 0} (m : Ghosts K) (laws : CommutativeRing m.zero m.one m.sum 
       ap₂ m.sum (laws.product_one v) (zeros_value 1 n) ∙ laws.sum_zero v
 
   -- a polynomial that annihilates r, its highest term written out, is zero at r
-  pub annihilated : (n : ℕ) (bits : ℕ → Bool) → Annihilates m n bits r → value_at m r (stored m n bits ++ (m.one ∷ [])) ≡ m.zero
+  pub annihilated : (n : ℕ) (bits : ℕ → Bool) → Annihilates m n bits r → value_at m r (coefficient_list m n bits ++ (m.one ∷ [])) ≡ m.zero
   annihilated n bits zero-there =
-      let cs : List K = stored m n bits in
-      let long : 0 + length cs ≡ n = zero-add (length cs) ∙ length_stored m n bits in
+      let cs : List K = coefficient_list m n bits in
+      let long : 0 + length cs ≡ n = zero-add (length cs) ∙ length_coefficients m n bits in
       value_push m laws r 0 cs m.one
       ∙ ap (m.sum (value_at m r cs)) (one_product m laws (power m r (0 + length cs)) ∙ ap (power m r) long)
       ∙ laws.sum_comm (value_at m r cs) (power m r n)

@@ -9,8 +9,8 @@ module _ {K : Type 0} (m : Ghosts K) where
   sum_of (c ∷ cs) (d ∷ ds) = m.sum c d ∷ sum_of cs ds
 
   -- c times a polynomial
-  abbrev pub scaled : K → List K → List K
-  scaled c ds = map (m.product c) ds
+  abbrev pub scalar_multiple : K → List K → List K
+  scalar_multiple c ds = map (m.product c) ds
 
   -- t times a polynomial
   abbrev pub times_t : List K → List K
@@ -18,10 +18,10 @@ module _ {K : Type 0} (m : Ghosts K) where
 
   abbrev pub product_of : List K → List K → List K
   product_of [] ds = []
-  product_of (c ∷ cs) ds = sum_of (scaled c ds) (times_t (product_of cs ds))
+  product_of (c ∷ cs) ds = sum_of (scalar_multiple c ds) (times_t (product_of cs ds))
 
   -- Division of a polynomial by another, whose degree is n: some quotient, and a remainder of degree below n.
-  pub record Divided (polynomial divisor remainder : List K) (n : ℕ) : Type 0 where
+  pub record IsRemainder (polynomial divisor remainder : List K) (n : ℕ) : Type 0 where
     pub quotient : List K
     pub whole : polynomial ≡ sum_of (product_of quotient divisor) remainder
     pub short : length remainder ≡ n
@@ -29,4 +29,4 @@ module _ {K : Type 0} (m : Ghosts K) where
   -- Whatever is a remainder of this division is this one.
   abbrev pub IsOnlyRemainder : List K → List K → List K → ℕ → Type 0
   IsOnlyRemainder polynomial divisor remainder n =
-      (other : List K) → Divided polynomial divisor other n → other ≡ remainder
+      (other : List K) → IsRemainder polynomial divisor other n → other ≡ remainder

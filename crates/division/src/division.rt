@@ -4,7 +4,7 @@
 // (T + P)·H: one step of the hash. The divisor's coefficients are zero and one, so a division only moves and adds blocks; a product
 // of blocks is made where the value is asked for, and nowhere else.
 ghost use Rattle.std.specs.Prelude.{◌≡◌, false};
-ghost use Rattle.division.specs.Divisions.{Born, DivisionAbsorbed, DivisionResumed, division_value};
+ghost use Rattle.division.specs.Divisions.{IsFresh, DivisionAbsorbs, DivisionResumes, division_value};
 
 use crate::divisor::Divisor;
 use crate::ring::Ring;
@@ -21,7 +21,7 @@ pub struct Division {
 
 impl Division {
     pub fn new(polynomial: Accepted<Block>) -> Division
-        ensures { Born polynomial result }
+        ensures { IsFresh polynomial result }
     {
         Division {
             divisor: Divisor::new(polynomial),
@@ -37,11 +37,11 @@ impl Engine for Division {
 
     ghost ready_of = { λ _. false };
 
-    ghost absorbed = { DivisionAbsorbed };
+    ghost absorbs = { DivisionAbsorbs };
 
-    ghost resumed = { DivisionResumed };
+    ghost resumes = { DivisionResumes };
 
-    ghost switched = { λ d accepted e. (accepted ≡ false) × (e ≡ d) };
+    ghost switches = { λ d accepted e. (accepted ≡ false) × (e ≡ d) };
 
     fn subkey(&self) -> Block {
         self.divisor.polynomial.subkey()

@@ -1,7 +1,7 @@
 // An accepted polynomial with the places of its ones, so that a division need not look for them.
 ghost use Rattle.std.specs.Prelude.{◌≡◌};
 ghost use Rattle.polynomial.specs.Blocks.{coefficients_of};
-ghost use Rattle.division.specs.Places.{ones_of};
+ghost use Rattle.division.specs.Places.{one_places};
 
 use arrayvec::ArrayVec;
 use field::Block;
@@ -11,7 +11,7 @@ use polynomial::{Accepted, Binary};
 pub(crate) struct Divisor {
     pub(crate) polynomial: Accepted<Block>,
     pub(crate) places: ArrayVec<u8, 128>,
-    ghost ones: { places.items ≡ ones_of 128 (coefficients_of polynomial.coefficients) },
+    ghost ones: { places.items ≡ one_places 128 (coefficients_of polynomial.coefficients) },
 }
 
 impl Divisor {

@@ -2,8 +2,8 @@
 ghost use Rattle.std.specs.Prelude.{◌≡◌, ℕ, ◌<◌, fold, length, reverse, slice_index};
 ghost use Rattle.field.specs.Kinds.{block_ring};
 ghost use Rattle.polynomial.specs.Polynomials.{value_at};
-ghost use Rattle.division.specs.Divisions.{Constant, Reduced, row_of, turned};
-ghost use Rattle.division.specs.Places.{added};
+ghost use Rattle.division.specs.Divisions.{IsConstant, IsReduction, row_of, next_base};
+ghost use Rattle.division.specs.Places.{sum_at_places};
 
 use crate::divisor::Divisor;
 use crate::ring::Ring;
@@ -21,7 +21,7 @@ fn value_above(key: Block, coefficients: &[Block], above: Block) -> Block
 impl Ring {
     // The constant polynomial.
     pub(crate) fn constant(value: Block) -> Ring
-        ensures { Constant value result }
+        ensures { IsConstant value result }
     {
         let mut ring = Ring {
             state: [Block::zero(); 128],
@@ -33,7 +33,7 @@ impl Ring {
 
     // W becomes the constant polynomial in place, so that no whole ring is moved.
     pub(crate) fn restart(&mut self, value: Block)
-        ensures { Constant value self.new }
+        ensures { IsConstant value self.new }
     {
         self.state.fill(Block::zero());
         self.state[0] = value;
@@ -52,7 +52,7 @@ impl Ring {
     // Adds a block at each of these places of W. `% 128` is a mask; two runs, up to the end and on from 0, were no faster.
     fn add_at(&mut self, places: &[u8], block: Block)
         requires { (k : ℕ) → k < length places.now → slice_index places.now k < 128 }
-        ensures row { row_of self.new ≡ added block_ring block places.now (row_of self.old) }
+        ensures row { row_of self.new ≡ sum_at_places block_ring block places.now (row_of self.old) }
         ensures base { self.new.base ≡ self.old.base }
     {
         let base = self.base;
@@ -64,8 +64,8 @@ impl Ring {
 
     // Replaces W by the remainder of t·(W + block) under division.
     pub(crate) fn absorb(&mut self, divisor: &Divisor, block: Block)
-        ensures divided { Reduced divisor.now.polynomial self.old block self.new }
-        ensures turn { self.new.base ≡ turned self.old.base }
+        ensures divided { IsReduction divisor.now.polynomial self.old block self.new }
+        ensures turn { self.new.base ≡ next_base self.old.base }
     {
         let lowest = self.base;
         self.state[lowest] = self.state[lowest].plus(block);

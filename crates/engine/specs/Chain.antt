@@ -1,6 +1,6 @@
 -- A chain of operations on an engine: each in turn, by the engine's own relation.
 use Rattle.std.specs.Prelude.{◌≡◌, Bool, List, [], ◌∷◌}
-use Rattle.field.specs.declared.kinds.Block.{Block}
+use Rattle.field.specs.declared.block.Block.{Block}
 use Rattle.engine.specs.declared.engine.Engine.{Ghosts}
 
 pub data Operation : Type 0 where
@@ -10,9 +10,9 @@ pub data Operation : Type 0 where
 
 module _ {E : Type 0} (m : Ghosts E) where
   abbrev pub Does : Operation → E → E → Type 0
-  Does (resume value) before after = m.resumed before value after
-  Does (absorb block) before after = m.absorbed before block after
-  Does (switch accepted) before after = m.switched before accepted after
+  Does (resume value) before after = m.resumes before value after
+  Does (absorb block) before after = m.absorbs before block after
+  Does (switch accepted) before after = m.switches before accepted after
 
   -- nothing changes nothing; else one operation, and the rest from there
   abbrev pub Chain : List Operation → E → E → Type 0

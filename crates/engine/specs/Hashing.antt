@@ -1,7 +1,7 @@
 -- One step of the hash, and the answer to a switch.
 use Rattle.std.specs.Prelude.{Bool, true, false, Ok, Err, Result}
 use Rattle.field.specs.Kinds.{block_ring}
-use Rattle.field.specs.declared.kinds.Block.{Block}
+use Rattle.field.specs.declared.block.Block.{Block}
 use Rattle.refusal.specs.declared.Refusal.{Refusal}
 use Rattle.refusal.specs.declared.Refusal.TheVariants.{NotReady}
 

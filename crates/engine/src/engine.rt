@@ -1,6 +1,6 @@
 // What every engine does: it hashes blocks under a subkey, and may hand its value over to another.
 ghost use Rattle.std.specs.Prelude.{◌≡◌, Bool, is_ok};
-ghost use Rattle.field.specs.declared.kinds.Block.{Block};
+ghost use Rattle.field.specs.declared.block.Block.{Block};
 ghost use Rattle.engine.specs.Hashing.{hash_step, switch_answer};
 
 use field::Block;
@@ -15,11 +15,11 @@ pub trait Engine: Sized {
     ghost ready_of: { Self → Bool };
 
     // What each call does to the whole engine: before, what the call was handed or answered, after.
-    ghost absorbed: { Self → Block → Self → Type 0 };
+    ghost absorbs: { Self → Block → Self → Type 0 };
 
-    ghost resumed: { Self → Block → Self → Type 0 };
+    ghost resumes: { Self → Block → Self → Type 0 };
 
-    ghost switched: { Self → Bool → Self → Type 0 };
+    ghost switches: { Self → Bool → Self → Type 0 };
 
     fn subkey(&self) -> Block
         ensures answer { result ≡ subkey_of self.now };
@@ -35,14 +35,14 @@ pub trait Engine: Sized {
         ensures value { value_of self.new ≡ hash_step (subkey_of self.old) (value_of self.old) block }
         ensures subkey { subkey_of self.new ≡ subkey_of self.old }
         ensures ready { ready_of self.new ≡ ready_of self.old }
-        ensures whole { absorbed self.old block self.new };
+        ensures whole { absorbs self.old block self.new };
 
     // Goes on from another value, under the same subkey.
     fn resume(&mut self, value: Block)
         ensures value { value_of self.new ≡ value }
         ensures subkey { subkey_of self.new ≡ subkey_of self.old }
         ensures ready { ready_of self.new ≡ ready_of self.old }
-        ensures whole { resumed self.old value self.new };
+        ensures whole { resumes self.old value self.new };
 
     // Hands over within the engine, where it can; what it computes stays the same.
     fn switch(&mut self) -> Result<(), Refusal>
@@ -50,5 +50,5 @@ pub trait Engine: Sized {
         ensures value { value_of self.new ≡ value_of self.old }
         ensures subkey { subkey_of self.new ≡ subkey_of self.old }
         ensures ready { ready_of self.new ≡ ready_of self.old }
-        ensures whole { switched self.old (is_ok result) self.new };
+        ensures whole { switches self.old (is_ok result) self.new };
 }

@@ -1,7 +1,7 @@
 // Two engines, of which one runs, and a switch from one to the other.
 ghost use Rattle.std.specs.Prelude.{◌≡◌};
 ghost use Rattle.engine.specs.Hashing.{hash_step};
-ghost use Rattle.engine.specs.Pairs.{OtherKept, pair_of, pairs_of};
+ghost use Rattle.engine.specs.Pairs.{KeepsOther, pair_of, pairs_of};
 
 use crate::engine::Engine;
 use field::Block;
@@ -57,11 +57,11 @@ impl<A: Engine, B: Engine> Engine for Pair<A, B> {
 
     ghost ready_of = { (pair_of A.Engine B.Engine).ready_of };
 
-    ghost absorbed = { (pair_of A.Engine B.Engine).absorbed };
+    ghost absorbs = { (pair_of A.Engine B.Engine).absorbs };
 
-    ghost resumed = { (pair_of A.Engine B.Engine).resumed };
+    ghost resumes = { (pair_of A.Engine B.Engine).resumes };
 
-    ghost switched = { (pair_of A.Engine B.Engine).switched };
+    ghost switches = { (pair_of A.Engine B.Engine).switches };
 
     // One `match` for each method: the two engines differ in type, so that no helper can answer the one that runs.
     fn subkey(&self) -> Block {
@@ -121,8 +121,8 @@ pub fn absorb_in_pairs<A: Engine, B: Engine, C: Engine, D: Engine>(
     block: Block,
 )
     ensures value { (pairs_of A.Engine B.Engine C.Engine D.Engine).value_of pairs.new ≡ hash_step ((pairs_of A.Engine B.Engine C.Engine D.Engine).subkey_of pairs.old) ((pairs_of A.Engine B.Engine C.Engine D.Engine).value_of pairs.old) block }
-    ensures other { OtherKept pairs.old.running pairs.old pairs.new }
-    ensures whole { (pairs_of A.Engine B.Engine C.Engine D.Engine).absorbed pairs.old block pairs.new }
+    ensures other { KeepsOther pairs.old.running pairs.old pairs.new }
+    ensures whole { (pairs_of A.Engine B.Engine C.Engine D.Engine).absorbs pairs.old block pairs.new }
 {
     pairs.absorb(block);
 }

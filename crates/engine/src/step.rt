@@ -31,11 +31,11 @@ impl Engine for Step {
 
     ghost ready_of = { λ _. false };
 
-    ghost absorbed = { λ e p f. f ≡ record { subkey = e.subkey; value = hash_step e.subkey e.value p } };
+    ghost absorbs = { λ e p f. f ≡ record { subkey = e.subkey; value = hash_step e.subkey e.value p } };
 
-    ghost resumed = { λ e t f. f ≡ record { subkey = e.subkey; value = t } };
+    ghost resumes = { λ e t f. f ≡ record { subkey = e.subkey; value = t } };
 
-    ghost switched = { λ e accepted f. (accepted ≡ false) × (f ≡ e) };
+    ghost switches = { λ e accepted f. (accepted ≡ false) × (f ≡ e) };
 
     fn subkey(&self) -> Block {
         self.subkey

@@ -2,8 +2,8 @@
 use Rattle.std.specs.Prelude.{ℕ, List}
 use Rattle.field.specs.Digits.{numeral, digits}
 use Rattle.field.specs.Kinds.{block, word}
-use Rattle.field.specs.declared.kinds.Block.{Block}
-use Rattle.field.specs.declared.kinds.Word.{Word}
+use Rattle.field.specs.declared.block.Block.{Block}
+use Rattle.field.specs.declared.word.Word.{Word}
 
 abbrev pub block_of : List ℕ → Block
 block_of bytes = block (numeral 256 bytes)

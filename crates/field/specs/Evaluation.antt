@@ -17,6 +17,6 @@ abbrev pub eval_from : {R : Type 0} → Ghosts R → R → R → List R → R
 eval_from m r v ps = m.sum (m.product v (power m r (length ps))) (eval m r ps)
 
 -- items taken in one by one from a value v on: v becomes (v + P)·r
-abbrev pub absorbed : {R : Type 0} → Ghosts R → R → R → List R → R
-absorbed m r v [] = v
-absorbed m r v (p ∷ ps) = absorbed m r (m.product (m.sum v p) r) ps
+abbrev pub horner : {R : Type 0} → Ghosts R → R → R → List R → R
+horner m r v [] = v
+horner m r v (p ∷ ps) = horner m r (m.product (m.sum v p) r) ps

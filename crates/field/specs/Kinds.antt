@@ -1,11 +1,11 @@
 -- Blocks, nibbles and words: how a number enters each, and what zero, one, sum and product are.
 use Rattle.std.specs.Prelude.{ℕ, ◌+◌, ◌-◌, ◌*◌, ◌%◌, ◌^◌, bit_xor}
 use Rattle.std.proofs.Common.{mod-lt, lit<}
-use Rattle.field.specs.Binary.{Kind, high_first, low_first, multiplied}
+use Rattle.field.specs.Binary.{FieldShape, high_first, low_first, bit_product}
 use Rattle.field.specs.declared.element.Element.{Ghosts}
-use Rattle.field.specs.declared.kinds.Block.{Block}
-use Rattle.field.specs.declared.kinds.Nibble.{Nibble}
-use Rattle.field.specs.declared.kinds.Word.{Word}
+use Rattle.field.specs.declared.block.Block.{Block}
+use Rattle.field.specs.declared.nibble.Nibble.{Nibble}
+use Rattle.field.specs.declared.word.Word.{Word}
 
 -- a number enters by its remainder
 abbrev pub block : ℕ → Block
@@ -18,27 +18,27 @@ abbrev pub word : ℕ → Word
 word n = record { value = n % (2 ^ 31 - 1); fits = mod-lt n (lit< tt) }
 
 -- x^128 + x^7 + x^2 + x + 1, the coefficient of x^0 highest: 1 + x + x^2 + x^7 is 11100001 and 120 zeros
-abbrev pub block_kind : Kind
-block_kind = high_first 128 (0xE1 * 2 ^ 120)
+abbrev pub block_shape : FieldShape
+block_shape = high_first 128 (0xE1 * 2 ^ 120)
 
 -- x^4 + x + 1, the coefficient of x^0 lowest: x + 1 is 0011
-abbrev pub nibble_kind : Kind
-nibble_kind = low_first 4 3
+abbrev pub nibble_shape : FieldShape
+nibble_shape = low_first 4 3
 
 abbrev pub block_ring : Ghosts Block
 block_ring = record {
   zero = block 0;
-  one = block block_kind.unit;
+  one = block block_shape.unit;
   sum = λ u v. block (bit_xor u.bits v.bits);
-  product = λ u v. block (multiplied block_kind 128 u.bits v.bits);
+  product = λ u v. block (bit_product block_shape 128 u.bits v.bits);
 }
 
 abbrev pub nibble_ring : Ghosts Nibble
 nibble_ring = record {
   zero = nibble 0;
-  one = nibble nibble_kind.unit;
+  one = nibble nibble_shape.unit;
   sum = λ u v. nibble (bit_xor u.bits v.bits);
-  product = λ u v. nibble (multiplied nibble_kind 4 u.bits v.bits);
+  product = λ u v. nibble (bit_product nibble_shape 4 u.bits v.bits);
 }
 
 abbrev pub word_ring : Ghosts Word

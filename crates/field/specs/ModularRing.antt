@@ -1,9 +1,9 @@
--- The ring of the numbers below m, with sum and product modulo m, held in any type of them.
+-- The ring of the numbers below m, with sum and product modulo m, residues in any type of them.
 use Rattle.std.specs.Prelude.{◌≡◌, ℕ, zero, ◌+◌, ◌-◌, ◌*◌, ◌/◌, ◌%◌, ◌<◌}
 use Rattle.std.proofs.Common.{sym, ap, ap₂, ◌∙◌, add_assoc, add_comm, add-zero, mul_assoc, mul_comm, mul-one, mul-add, mod-eq_of_lt, div-add-mod', arith}
 use Rattle.std.proofs.Math.Nat.{mod-add-mod, add-mod-mod, mod_self, mul-add-mod_self_right}
 use Rattle.field.specs.Ring.{CommutativeRing}
-use Rattle.field.specs.Held.{Held, value_below}
+use Rattle.field.specs.Residues.{Residues, value_below}
 
 mul_mod_mod : (a b m : ℕ) → (a * (b % m)) % m ≡ (a * b) % m
 mul_mod_mod a b m =
@@ -17,41 +17,41 @@ mod_mul_mod : (a b m : ℕ) → (a % m * b) % m ≡ (a * b) % m
 mod_mul_mod a b m =
     ap (λ (x : ℕ). x % m) (mul_comm (a % m) b) ∙ mul_mod_mod b a m ∙ ap (λ (x : ℕ). x % m) (mul_comm b a)
 
-module _ {V : Type 0} {m : ℕ} (held : Held V m) (above-one : 1 < m) where
+module _ {V : Type 0} {m : ℕ} (residues : Residues V m) (above-one : 1 < m) where
   abbrev number : V → ℕ
-  number = held.value
+  number = residues.value
 
   abbrev plus_in : V → V → V
-  plus_in u v = held.enter (number u + number v)
+  plus_in u v = residues.enter (number u + number v)
 
   abbrev times_in : V → V → V
-  times_in u v = held.enter (number u * number v)
+  times_in u v = residues.enter (number u * number v)
 
   abbrev negative_in : V → V
-  negative_in u = held.enter (m - number u)
+  negative_in u = residues.enter (m - number u)
 
   sum_number : (u v : V) → number (plus_in u v) ≡ (number u + number v) % m
-  sum_number u v = held.value_enter (number u + number v)
+  sum_number u v = residues.value_enter (number u + number v)
 
   product_number : (u v : V) → number (times_in u v) ≡ (number u * number v) % m
-  product_number u v = held.value_enter (number u * number v)
+  product_number u v = residues.value_enter (number u * number v)
 
-  none_number : number (held.enter zero) ≡ zero
-  none_number = value_below held zero (omega arith)
+  none_number : number (residues.enter zero) ≡ zero
+  none_number = value_below residues zero (omega arith)
 
   back : (x : V) → number x + (m - number x) ≡ m
-  back x = let h : number x < m = held.fits x in omega arith
+  back x = let h : number x < m = residues.fits x in omega arith
 
-  pub modular_ring : CommutativeRing (held.enter zero) (held.enter 1) plus_in times_in
+  pub modular_ring : CommutativeRing (residues.enter zero) (residues.enter 1) plus_in times_in
   modular_ring = record {
-    sum_zero = λ x. held.same _ x
-        (sum_number x (held.enter zero)
+    sum_zero = λ x. residues.same _ x
+        (sum_number x (residues.enter zero)
         ∙ ap (λ (n : ℕ). (number x + n) % m) none_number
         ∙ ap (λ (n : ℕ). n % m) (add-zero (number x))
-        ∙ mod-eq_of_lt (held.fits x));
-    sum_comm = λ x y. held.same _ _
+        ∙ mod-eq_of_lt (residues.fits x));
+    sum_comm = λ x y. residues.same _ _
         (sum_number x y ∙ ap (λ (n : ℕ). n % m) (add_comm (number x) (number y)) ∙ sym (sum_number y x));
-    sum_assoc = λ x y z. held.same _ _
+    sum_assoc = λ x y z. residues.same _ _
         (sum_number (plus_in x y) z
         ∙ ap (λ (n : ℕ). (n + number z) % m) (sum_number x y)
         ∙ mod-add-mod (number x + number y) m (number z)
@@ -60,21 +60,21 @@ module _ {V : Type 0} {m : ℕ} (held : Held V m) (above-one : 1 < m) where
         ∙ ap (λ (n : ℕ). (number x + n) % m) (sum_number y z)
         ∙ add-mod-mod (number x) (number y + number z) m));
     negative = negative_in;
-    sum_negative = λ x. held.same _ _
+    sum_negative = λ x. residues.same _ _
         (sum_number x (negative_in x)
-        ∙ ap (λ (n : ℕ). (number x + n) % m) (held.value_enter (m - number x))
+        ∙ ap (λ (n : ℕ). (number x + n) % m) (residues.value_enter (m - number x))
         ∙ add-mod-mod (number x) (m - number x) m
         ∙ ap (λ (n : ℕ). n % m) (back x)
         ∙ mod_self m
         ∙ sym none_number);
-    product_one = λ x. held.same _ x
-        (product_number x (held.enter 1)
-        ∙ ap (λ (n : ℕ). (number x * n) % m) (value_below held 1 above-one)
+    product_one = λ x. residues.same _ x
+        (product_number x (residues.enter 1)
+        ∙ ap (λ (n : ℕ). (number x * n) % m) (value_below residues 1 above-one)
         ∙ ap (λ (n : ℕ). n % m) (mul-one (number x))
-        ∙ mod-eq_of_lt (held.fits x));
-    product_comm = λ x y. held.same _ _
+        ∙ mod-eq_of_lt (residues.fits x));
+    product_comm = λ x y. residues.same _ _
         (product_number x y ∙ ap (λ (n : ℕ). n % m) (mul_comm (number x) (number y)) ∙ sym (product_number y x));
-    product_assoc = λ x y z. held.same _ _
+    product_assoc = λ x y z. residues.same _ _
         (product_number (times_in x y) z
         ∙ ap (λ (n : ℕ). (n * number z) % m) (product_number x y)
         ∙ mod_mul_mod (number x * number y) (number z) m
@@ -82,7 +82,7 @@ module _ {V : Type 0} {m : ℕ} (held : Held V m) (above-one : 1 < m) where
         ∙ sym (product_number x (times_in y z)
         ∙ ap (λ (n : ℕ). (number x * n) % m) (product_number y z)
         ∙ mul_mod_mod (number x) (number y * number z) m));
-    product_sum = λ x y z. held.same _ _
+    product_sum = λ x y z. residues.same _ _
         (product_number x (plus_in y z)
         ∙ ap (λ (n : ℕ). (number x * n) % m) (sum_number y z)
         ∙ mul_mod_mod (number x) (number y + number z) m

@@ -2,16 +2,17 @@
 #![tactic(auto)]
 
 mod binary;
-mod blocks;
+mod block;
 mod element;
 mod encodes;
 mod evaluator;
-mod kinds;
-mod nibbles;
+mod nibble;
 mod powers;
-mod words;
+mod word;
 
+pub use block::Block;
 pub use element::Element;
 pub use encodes::Encodes;
 pub use evaluator::evaluate;
-pub use kinds::{Block, Nibble, Word};
+pub use nibble::Nibble;
+pub use word::Word;

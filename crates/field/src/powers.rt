@@ -10,8 +10,7 @@ ghost use Rattle.field.specs.Evaluation.{eval_from};
 ghost use Rattle.field.specs.Kinds.{word_ring};
 
 use crate::element::Element;
-use crate::kinds::Word;
-use crate::words::{number, remainder};
+use crate::word::{Word, number, remainder};
 
 // How many numbers a group has.
 pub(crate) const GROUP: usize = 6;

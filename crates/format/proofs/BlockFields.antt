@@ -75,17 +75,17 @@ module _ (n : ℕ) (c : Content) where
   block_rest = refl
 
   -- each field says what was laid out
-  pub kind_laid : kind_in (block_bytes n c) ≡ c.kind
+  pub kind_numbered : kind_in (block_bytes n c) ≡ c.kind
   unfolding front digits
-  kind_laid = refl
+  kind_numbered = refl
 
-  pub reserve_laid : reserve_in (block_bytes n c) ≡ 0
+  pub reserve_numbered : reserve_in (block_bytes n c) ≡ 0
   unfolding front digits
-  reserve_laid = refl
+  reserve_numbered = refl
 
-  pub number_laid : n < 65536 → number_in (block_bytes n c) ≡ n
+  pub number_numbered : n < 65536 → number_in (block_bytes n c) ≡ n
   unfolding front digits
-  number_laid below = pair_number n below
+  number_numbered below = pair_number n below
 
   module _ (limit : length c.bytes ≤ 502) where
     -- number, kind, reserve, used length, data and zeros take 508 bytes
@@ -102,43 +102,43 @@ module _ (n : ℕ) (c : Content) where
     limit : length c.bytes ≤ 502
     limit = used_limit c.kind (length c.bytes) fit.used
 
-    pub length_laid : length (block_bytes n c) ≡ 512
-    length_laid = length_block limit
+    pub length_numbered : length (block_bytes n c) ≡ 512
+    length_numbered = length_block limit
 
-    pub front_laid : take 508 (block_bytes n c) ≡ front n c
-    front_laid = take_at (front n c) (digits 256 4 (check_of (front n c))) 508 (length_front limit)
+    pub front_numbered : take 508 (block_bytes n c) ≡ front n c
+    front_numbered = take_at (front n c) (digits 256 4 (check_of (front n c))) 508 (length_front limit)
 
-    pub check_laid : check_in (block_bytes n c) ≡ check_of (front n c)
-    check_laid =
+    pub check_numbered : check_in (block_bytes n c) ≡ check_of (front n c)
+    check_numbered =
         ap (numeral 256) (drop_at (front n c) (digits 256 4 (check_of (front n c))) 508 (length_front limit))
         ∙ numeral_digits 256 (lit< tt) 4 (check_of (front n c))
         ∙ mod-eq_of_lt (check_below (front n c))
 
-    pub used_laid : used_in (block_bytes n c) ≡ length c.bytes
+    pub used_numbered : used_in (block_bytes n c) ≡ length c.bytes
     unfolding front digits
-    used_laid = let l = limit in pair_number (length c.bytes) (omega arith)
+    used_numbered = let l = limit in pair_number (length c.bytes) (omega arith)
 
-    pub data_laid : data_in (block_bytes n c) ≡ c.bytes
-    data_laid =
+    pub data_numbered : data_in (block_bytes n c) ≡ c.bytes
+    data_numbered =
         let check : List ℕ = digits 256 4 (check_of (front n c)) in
-        ap (λ (u : ℕ). take u (drop 6 (block_bytes n c))) used_laid
+        ap (λ (u : ℕ). take u (drop 6 (block_bytes n c))) used_numbered
         ∙ ap (take (length c.bytes)) (block_rest ∙ append_assoc c.bytes (fill_of c) check)
         ∙ take_at c.bytes (fill_of c ++ check) (length c.bytes) refl
 
-    pub fill_laid : is_all_zero (fill_in (block_bytes n c)) ≡ true
-    fill_laid =
-        ap₂ (λ (u : ℕ) (f : List ℕ). is_all_zero (drop (6 + u) f)) used_laid front_laid
+    pub fill_numbered : is_all_zero (fill_in (block_bytes n c)) ≡ true
+    fill_numbered =
+        ap₂ (λ (u : ℕ) (f : List ℕ). is_all_zero (drop (6 + u) f)) used_numbered front_numbered
         ∙ ap is_all_zero
         (sym (drop-drop (length c.bytes) 6 (front n c))
         ∙ ap (drop (length c.bytes)) front_rest
         ∙ drop_at c.bytes (fill_of c) (length c.bytes) refl)
         ∙ zeros_zero (502 - length c.bytes)
 
-    pub content_laid : content_of (block_bytes n c) ≡ c
-    content_laid = ap₂ content kind_laid data_laid
+    pub content_numbered : content_of (block_bytes n c) ≡ c
+    content_numbered = ap₂ content kind_numbered data_numbered
 
-    pub form_laid : is_form_good (block_bytes n c) ≡ true
-    form_laid = grind (arith, nat_tests, fit.low, fit.high, reserve_laid, kind_laid, used_laid, fit.used, fill_laid)
+    pub form_numbered : is_form_good (block_bytes n c) ≡ true
+    form_numbered = grind (arith, nat_tests, fit.low, fit.high, reserve_numbered, kind_numbered, used_numbered, fit.used, fill_numbered)
 
 -- ---- a block whose check, number and form are right
 

@@ -1,10 +1,10 @@
 -- The first pass of a file, by what is wrong with it.
 use Rattle.std.proofs.Common.{◌≡◌, ℕ, ◌<◌, ◌≤◌, Bool, true, false, cond, eqb, leb, List, length, Ok, Err, Result, refl, ap, ◌∙◌, subst, inl, inr}
 use Rattle.std.proofs.lemmas.Bool.{cases_lt, le-leb, lt-leb}
-use Rattle.refusal.specs.Refusals.{number_of}
+use Rattle.refusal.specs.Refusals.{refusal_number}
 use Rattle.refusal.specs.declared.Refusal.{Refusal}
 use Rattle.refusal.specs.declared.Refusal.TheVariants.{HeaderTooLong}
-use Rattle.format.specs.Faults.{Previous, first, blocks_of, is_size_good, previous_at, scanned, header_in}
+use Rattle.format.specs.Faults.{Previous, first, blocks_of, is_size_good, previous_at, scan_result, header_in}
 use Rattle.format.specs.Verdict.{after, first_pass}
 use Rattle.format.specs.Flaws.{block_count, IsScanFault, PassesScan}
 use Rattle.format.specs.declared.lengths.Lengths.{Lengths}
@@ -16,7 +16,7 @@ pub record Passed (file : List ℕ) : Type 0 where
   pub pass : PassesScan file
   pub size : is_size_good file ≡ true
   pub last : Previous
-  pub scan : scanned 0 first (blocks_of file) ≡ Ok last
+  pub scan : scan_result 0 first (blocks_of file) ≡ Ok last
   pub end : last.kind ≡ 3
   pub short : length (header_in file) ≤ 65535
 
@@ -40,13 +40,13 @@ module _ (file : List ℕ) where
       goes_on pass ∙ ap (λ (t : Bool). cond t (Ok (told file)) (Err HeaderTooLong)) (le-leb (length (header_in file)) 65535 short)
 
   -- no refusal of the first pass is that of a tag
-  pub other_pass : (e : Refusal) → first_pass file ≡ Err e → eqb (number_of e) 8 ≡ false
+  pub other_pass : (e : Refusal) → first_pass file ≡ Err e → eqb (refusal_number e) 8 ≡ false
   other_pass e stopped =
       elim (pass_or_fault file) [
         | inr f ↦
-            subst (λ (o : Refusal). eqb (number_of o) 8 ≡ false) (one_reason (first_refuses f.0 f.1) stopped) (scan_fault_other file f.0 f.1)
+            subst (λ (o : Refusal). eqb (refusal_number o) 8 ≡ false) (one_reason (first_refuses f.0 f.1) stopped) (scan_fault_other file f.0 f.1)
         | inl pass ↦ elim (cases_lt 65535 (length (header_in file))) [
-          | inl long ↦ subst (λ (o : Refusal). eqb (number_of o) 8 ≡ false) (one_reason (too_long pass long) stopped) refl
+          | inl long ↦ subst (λ (o : Refusal). eqb (refusal_number o) 8 ≡ false) (one_reason (too_long pass long) stopped) refl
           | inr short ↦ absurd (not_both (first_passes pass short) stopped)
         ]
       ]

@@ -5,14 +5,14 @@ use Rattle.std.proofs.lemmas.Bool.{eqb-true}
 use Rattle.std.proofs.lemmas.Bool.Decides.{nat_tests}
 use Rattle.field.specs.Bytes.{bytes_of}
 use Rattle.field.specs.Digits.{numeral, digits}
-use Rattle.field.specs.declared.kinds.Block.{Block}
+use Rattle.field.specs.declared.block.Block.{Block}
 use Rattle.field.proofs.Digits.{length_digits, numeral_digits, digits_numeral}
 use Rattle.message.specs.Limits.{header_limit}
 use Rattle.message.specs.Blocks.{AreBytes}
 use Rattle.message.specs.Hash.{tag_of}
 use Rattle.refusal.specs.declared.Refusal.TheVariants.{TagDiffers}
-use Rattle.format.specs.Layout.{Content, contents, laid, sealed, blocks_for}
-use Rattle.format.specs.Faults.{first, rows_of, blocks_of, is_size_good, scanned, data_of, header_in, body_in, tag_in}
+use Rattle.format.specs.Layout.{Content, contents, numbered_blocks, sealed_file, blocks_for}
+use Rattle.format.specs.Faults.{first, rows_of, blocks_of, is_size_good, scan_result, data_of, header_in, body_in, tag_in}
 use Rattle.format.specs.Verdict.{lengths_of, first_pass, tag_verdict, verdict, IsSealOf, Exact, Reopens}
 use Rattle.format.specs.Flaws.{HasFileSize}
 use Rattle.format.specs.declared.lengths.Lengths.{Lengths}
@@ -20,7 +20,7 @@ use Rattle.format.proofs.BlockFields.{content_of}
 use Rattle.format.proofs.Sequences.{Follows, part_of, Whole, in_order, contents_follow, header_part, body_part, tag_part, length_contents}
 use Rattle.format.proofs.Results.{came, test_passed, value_of, if_value}
 use Rattle.format.proofs.FirstPass.{Passed, passed}
-use Rattle.format.proofs.Scans.{scanned_laid, block_rows, length_laid_all, rows_laid, rows_contents, rows_scanned, data_part, read_small}
+use Rattle.format.proofs.Scans.{scan_numbered, block_rows, length_numbered_all, rows_numbered, rows_contents, rows_scan, data_part, read_small}
 
 -- ---- what is read out of a sealed file
 
@@ -35,44 +35,44 @@ module _ (subkey pad : Block) (header body : List ℕ) where
   carried_follow : Follows first carried
   carried_follow = contents_follow header body tag (length_digits 256 16 (tag_of subkey pad header body).bits)
 
-  length_carried : length (sealed subkey pad header body) ≡ 512 * length carried
-  unfolding sealed
-  length_carried = length_laid_all 0 first carried carried_follow
+  length_carried : length (sealed_file subkey pad header body) ≡ 512 * length carried
+  unfolding sealed_file
+  length_carried = length_numbered_all 0 first carried carried_follow
 
-  pub length_sealed : length (sealed subkey pad header body) ≡ 512 * blocks_for (length header) (length body)
+  pub length_sealed : length (sealed_file subkey pad header body) ≡ 512 * blocks_for (length header) (length body)
   length_sealed = length_carried ∙ ap (λ (n : ℕ). 512 * n) (length_contents header body tag)
 
   -- its blocks are those that were laid out
-  pub blocks_sealed : blocks_of (sealed subkey pad header body) ≡ block_rows 0 carried
-  unfolding blocks_of sealed
+  pub blocks_sealed : blocks_of (sealed_file subkey pad header body) ≡ block_rows 0 carried
+  unfolding blocks_of sealed_file
   blocks_sealed =
-      let long : length (laid 0 carried) ≡ 512 * length carried = length_carried in
-      let count : length (laid 0 carried) / 512 ≡ length carried = omega arith in
-      ap (λ (n : ℕ). rows_of n (laid 0 carried)) count ∙ rows_laid 0 first carried carried_follow
+      let long : length (numbered_blocks 0 carried) ≡ 512 * length carried = length_carried in
+      let count : length (numbered_blocks 0 carried) / 512 ≡ length carried = omega arith in
+      ap (λ (n : ℕ). rows_of n (numbered_blocks 0 carried)) count ∙ rows_numbered 0 first carried carried_follow
 
   -- the data of a kind are those of the contents of that kind
-  data_sealed : (kind : ℕ) → data_of kind (blocks_of (sealed subkey pad header body)) ≡ part_of kind carried
+  data_sealed : (kind : ℕ) → data_of kind (blocks_of (sealed_file subkey pad header body)) ≡ part_of kind carried
   data_sealed kind =
       ap (data_of kind) blocks_sealed
       ∙ data_part kind (block_rows 0 carried)
       ∙ ap (part_of kind) (rows_contents 0 first carried carried_follow)
 
-  pub sealed_header : header_in (sealed subkey pad header body) ≡ header
+  pub sealed_header : header_in (sealed_file subkey pad header body) ≡ header
   sealed_header = data_sealed 1 ∙ header_part header body tag
 
-  pub sealed_body : body_in (sealed subkey pad header body) ≡ body
+  pub sealed_body : body_in (sealed_file subkey pad header body) ≡ body
   sealed_body = data_sealed 2 ∙ body_part header body tag
 
-  pub sealed_tag : tag_in (sealed subkey pad header body) ≡ tag
+  pub sealed_tag : tag_in (sealed_file subkey pad header body) ≡ tag
   sealed_tag = data_sealed 3 ∙ tag_part header body tag
 
 -- ---- a sealed file is accepted
 
 module _ (subkey pad : Block) (header body : List ℕ) where
   -- the tag read out of it is the tag of the parts read out of it
-  tag_sealed : tag_verdict subkey pad (sealed subkey pad header body) ≡ Ok (lengths_of header body)
+  tag_sealed : tag_verdict subkey pad (sealed_file subkey pad header body) ≡ Ok (lengths_of header body)
   tag_sealed =
-      let file : List ℕ = sealed subkey pad header body in
+      let file : List ℕ = sealed_file subkey pad header body in
       let t : Block = tag_of subkey pad header body in
       let right : numeral 256 (tag_in file) ≡ (tag_of subkey pad (header_in file) (body_in file)).bits =
       ap (numeral 256) (sealed_tag subkey pad header body)
@@ -83,21 +83,21 @@ module _ (subkey pad : Block) (header body : List ℕ) where
       ∙ ap₂ (λ (h b : List ℕ). Ok (lengths_of h b)) (sealed_header subkey pad header body) (sealed_body subkey pad header body)
 
   module _ (short : length header ≤ 65535) (count : blocks_for (length header) (length body) ≤ 65536) where
-    size_sealed : is_size_good (sealed subkey pad header body) ≡ true
+    size_sealed : is_size_good (sealed_file subkey pad header body) ≡ true
     size_sealed =
-        let n : ℕ = length (sealed subkey pad header body) in
+        let n : ℕ = length (sealed_file subkey pad header body) in
         let long : n ≡ 512 * blocks_for (length header) (length body) = length_sealed subkey pad header body in
         grind (arith, nat_tests)
 
     -- the check accepts it, and tells how long its parts are
-    pub sealed_accepted : verdict subkey pad (sealed subkey pad header body) ≡ Ok (lengths_of header body)
+    pub sealed_accepted : verdict subkey pad (sealed_file subkey pad header body) ≡ Ok (lengths_of header body)
     sealed_accepted =
-        let file : List ℕ = sealed subkey pad header body in
+        let file : List ℕ = sealed_file subkey pad header body in
         let cs : List Content = carried subkey pad header body in
         let few : 0 + length cs ≤ 65536 = omega (arith, length_contents header body (tag subkey pad header body)) in
-        let scan = rows_scanned 0 first cs (carried_follow subkey pad header body) few in
+        let scan = rows_scan 0 first cs (carried_follow subkey pad header body) few in
         let within : length (header_in file) ≤ header_limit = subst (λ (h : List ℕ). length h ≤ 65535) (sym (sealed_header subkey pad header body)) short in
-        let blocks : scanned 0 first (blocks_of file) ≡ Ok scan.0 = ap (scanned 0 first) (blocks_sealed subkey pad header body) ∙ scan.1 in
+        let blocks : scan_result 0 first (blocks_of file) ≡ Ok scan.0 = ap (scan_result 0 first) (blocks_sealed subkey pad header body) ∙ scan.1 in
         grind (arith, nat_tests, size_sealed, blocks, scan.2, within, tag_sealed)
 
 -- ---- an accepted file is sealed
@@ -122,13 +122,13 @@ accepted_parts subkey pad file lens e =
 
 -- a file of bytes that the check accepts is the sealed file of the parts read out of it
 pub accepted_sealed : (subkey pad : Block) (file : List ℕ) (lens : Lengths) → AreBytes file → verdict subkey pad file ≡ Ok lens
-    → file ≡ sealed subkey pad (header_in file) (body_in file)
-unfolding blocks_of sealed
+    → file ≡ sealed_file subkey pad (header_in file) (body_in file)
+unfolding blocks_of sealed_file
 accepted_sealed subkey pad file lens small e =
     let a : Accepted subkey pad file lens = accepted_parts subkey pad file lens e in
     let m : ℕ = length file / 512 in
     let size : HasFileSize file = a.through.pass.size in
-    let found = scanned_laid m 0 first a.through.last file (omega arith) small a.through.scan a.through.end in
+    let found = scan_numbered m 0 first a.through.last file (omega arith) small a.through.scan a.through.end in
     let cs : List Content = map content_of (rows_of m file) in
     let ordered : Whole cs = in_order first cs found.1 (omega arith) in
     let part : (kind : ℕ) → part_of kind cs ≡ data_of kind (rows_of m file) = λ kind. sym (data_part kind (rows_of m file)) in
@@ -136,7 +136,7 @@ accepted_sealed subkey pad file lens small e =
     let last : tag_in file ≡ bytes_of (tag_of subkey pad (header_in file) (body_in file)) =
     sym (digits_numeral 256 (lit< tt) (tag_in file) (read_small 3 file small)) ∙ ap₂ (digits 256) sixteen a.tagged in
     found.0
-    ∙ ap (laid 0) (ordered.0 ∙ (λ i. contents (part 1 i) (part 2 i) ((part 3 ∙ last) i)))
+    ∙ ap (numbered_blocks 0) (ordered.0 ∙ (λ i. contents (part 1 i) (part 2 i) ((part 3 ∙ last) i)))
 
 -- ---- both directions
 
@@ -152,7 +152,7 @@ module _ (subkey pad : Block) (file : List ℕ) (small : AreBytes file) where
   pub accepted_seal : (lens : Lengths) → verdict subkey pad file ≡ Ok lens → IsSealOf subkey pad (header_in file) (body_in file) file
   accepted_seal lens e =
       let through : Passed file = (accepted_parts subkey pad file lens e).through in
-      let made : file ≡ sealed subkey pad (header_in file) (body_in file) = accepted_sealed subkey pad file lens small e in
+      let made : file ≡ sealed_file subkey pad (header_in file) (body_in file) = accepted_sealed subkey pad file lens small e in
       let size : HasFileSize file = through.pass.size in
       let long = ap length made ∙ length_sealed subkey pad (header_in file) (body_in file) in
       record { short = through.short; few = omega (arith, long); made = made }

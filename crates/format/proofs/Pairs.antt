@@ -4,7 +4,7 @@ use Rattle.std.specs.Simd.{first_chunks}
 use Rattle.field.specs.Bytes.{word_of}
 use Rattle.field.specs.Digits.{numeral}
 use Rattle.field.specs.Kinds.{word}
-use Rattle.field.specs.declared.kinds.Word.{Word}
+use Rattle.field.specs.declared.word.Word.{Word}
 use Rattle.format.specs.Layout.{pairs}
 
 two_bytes : (x y : ℕ) → numeral 256 (x ∷ (y ∷ [])) ≡ x * 256 + y

@@ -4,10 +4,10 @@ use Rattle.std.specs.Bool.{Decides}
 use Rattle.std.proofs.lemmas.List.{drop-drop}
 use Rattle.std.proofs.lemmas.Bool.{cases_Bool, cases_eq, eq-eqb, ne_eqb, false_from_ne_true}
 use Rattle.std.proofs.lemmas.Bool.Decides.{nat_tests, not_from_Decides}
-use Rattle.refusal.specs.Refusals.{number_of}
+use Rattle.refusal.specs.Refusals.{refusal_number}
 use Rattle.refusal.specs.declared.Refusal.{Refusal}
 use Rattle.refusal.specs.declared.Refusal.TheVariants.{TagDiffers, FileSize, WrongCheck, WrongNumber, WrongForm, WrongOrder, NoEnd}
-use Rattle.format.specs.Faults.{Previous, first, previous, rows_of, blocks_of, is_size_good, block_at, previous_at, on_fault, scanned, header_in, body_in}
+use Rattle.format.specs.Faults.{Previous, first, previous, rows_of, blocks_of, is_size_good, block_at, previous_at, on_fault, scan_result, header_in, body_in}
 use Rattle.format.specs.Verdict.{after, lengths_of, scan_answer}
 use Rattle.format.specs.Flaws.{Flaw, check, number, form, order, HasNoFlaw, block_count, HasFileSize, IsFlawless, last_kind, IsFirstFlaw, IsScanFault, PassesScan}
 use Rattle.format.specs.declared.lengths.Lengths.{Lengths}
@@ -18,32 +18,32 @@ use Rattle.format.proofs.BlockFlaws.{refusal_of, sound_or_flawed, block_passes, 
 
 -- one block with no flaw
 scan_step : (k m : ℕ) (file : List ℕ) → HasNoFlaw file k
-    → scanned k (previous_at file k) (rows_of (suc m) (drop (512 * k) file)) ≡ scanned (suc k) (previous_at file (suc k)) (rows_of m (drop (512 * suc k) file))
+    → scan_result k (previous_at file k) (rows_of (suc m) (drop (512 * k) file)) ≡ scan_result (suc k) (previous_at file (suc k)) (rows_of m (drop (512 * suc k) file))
 scan_step k m file sound =
     let further : 512 * k + 512 ≡ 512 * suc k = omega arith in
     let rest : drop 512 (drop (512 * k) file) ≡ drop (512 * suc k) file = drop-drop 512 (512 * k) file ∙ ap (λ (j : ℕ). drop j file) further in
-    λ i. on_fault (block_passes file k sound i) (scanned (suc k) (previous (block_at file k)) (rows_of m (rest i)))
+    λ i. on_fault (block_passes file k sound i) (scan_result (suc k) (previous (block_at file k)) (rows_of m (rest i)))
 
 -- k blocks with no flaw
 pub scan_from : (k m n : ℕ) (file : List ℕ) → k + m ≡ n → ((j : ℕ) → j < k → HasNoFlaw file j)
-    → scanned 0 first (rows_of n file) ≡ scanned k (previous_at file k) (rows_of m (drop (512 * k) file))
-scan_from zero m n file all sound = let same : n ≡ m = omega arith in ap (λ (j : ℕ). scanned 0 first (rows_of j file)) same
+    → scan_result 0 first (rows_of n file) ≡ scan_result k (previous_at file k) (rows_of m (drop (512 * k) file))
+scan_from zero m n file all sound = let same : n ≡ m = omega arith in ap (λ (j : ℕ). scan_result 0 first (rows_of j file)) same
 scan_from (suc k) m n file all sound =
     scan_from k (suc m) n file (omega arith) (λ j less. sound j (omega arith)) ∙ scan_step k m file (sound k (omega arith))
 
 -- all blocks
-pub scan_flawless : (file : List ℕ) → IsFlawless file → scanned 0 first (blocks_of file) ≡ Ok (previous_at file (block_count file))
+pub scan_flawless : (file : List ℕ) → IsFlawless file → scan_result 0 first (blocks_of file) ≡ Ok (previous_at file (block_count file))
 unfolding blocks_of
 scan_flawless file sound = scan_from (block_count file) 0 (block_count file) file (omega arith) sound
 
 -- up to the first flaw
-scan_flawed : (file : List ℕ) (k : ℕ) (flaw : Flaw) → IsFirstFlaw file k flaw → scanned 0 first (blocks_of file) ≡ Err (refusal_of flaw k)
+scan_flawed : (file : List ℕ) (k : ℕ) (flaw : Flaw) → IsFirstFlaw file k flaw → scan_result 0 first (blocks_of file) ≡ Err (refusal_of flaw k)
 unfolding blocks_of
 scan_flawed file k flaw f =
     let within : k < block_count file = f.within in
     let m : ℕ = block_count file - suc k in
     scan_from k (suc m) (block_count file) file (omega arith) f.before
-    ∙ ap (λ (o : Option Refusal). on_fault o (scanned (suc k) (previous (block_at file k)) (rows_of m (drop 512 (drop (512 * k) file))))) (first_fault file k flaw f.here)
+    ∙ ap (λ (o : Option Refusal). on_fault o (scan_result (suc k) (previous (block_at file k)) (rows_of m (drop 512 (drop (512 * k) file))))) (first_fault file k flaw f.here)
 
 -- the first n blocks have no flaw, or one of them is the first that has
 flaw_below : (n : ℕ) (file : List ℕ) → n ≤ block_count file → ((k : ℕ) → k < n → HasNoFlaw file k) ⊎ ((k : ℕ) × (flaw : Flaw) × IsFirstFlaw file k flaw)
@@ -90,8 +90,8 @@ module _ (file : List ℕ) where
   abbrev gone_through : Result Previous Refusal → Result Lengths Refusal
   gone_through r = after r (λ last. ended (eqb last.kind 3))
 
-  of_size : (t : Bool) → is_size_good file ≡ t → scan_answer file ≡ cond t (gone_through (scanned 0 first (blocks_of file))) (Err FileSize)
-  of_size t same = ap (λ (u : Bool). cond u (gone_through (scanned 0 first (blocks_of file))) (Err FileSize)) same
+  of_size : (t : Bool) → is_size_good file ≡ t → scan_answer file ≡ cond t (gone_through (scan_result 0 first (blocks_of file))) (Err FileSize)
+  of_size t same = ap (λ (u : Bool). cond u (gone_through (scan_result 0 first (blocks_of file))) (Err FileSize)) same
 
   flawless : HasFileSize file → IsFlawless file → (t : Bool) → eqb (last_kind file) 3 ≡ t → scan_answer file ≡ ended t
   flawless size sound t same =
@@ -157,6 +157,6 @@ module _ (file : List ℕ) where
       ]
 
 -- no fault that the scan finds is that of a tag
-pub scan_fault_other : (file : List ℕ) (e : Refusal) → IsScanFault file e → eqb (number_of e) 8 ≡ false
+pub scan_fault_other : (file : List ℕ) (e : Refusal) → IsScanFault file e → eqb (refusal_number e) 8 ≡ false
 scan_fault_other file TagDiffers h = absurd h
 scan_fault_other file other h = refl

@@ -6,9 +6,9 @@ use Rattle.std.proofs.lemmas.Bool.Decides.{nat_tests}
 use Rattle.message.specs.Blocks.{AreBytes}
 use Rattle.message.proofs.StandardHash.{small_append, small_take, small_drop}
 use Rattle.refusal.specs.declared.Refusal.{Refusal}
-use Rattle.format.specs.Layout.{Content, check_of, block_bytes, laid}
-use Rattle.format.specs.Faults.{Previous, previous, number_in, kind_in, used_in, data_in, check_in, is_form_good, is_order_good, fault_of, on_fault, rows_of, blocks_of, scanned, data_of}
-use Rattle.format.proofs.BlockFields.{Fit, content_of, content_fits, block_again, kind_laid, number_laid, used_laid, front_laid, check_laid, form_laid, length_laid, content_laid}
+use Rattle.format.specs.Layout.{Content, check_of, block_bytes, numbered_blocks}
+use Rattle.format.specs.Faults.{Previous, previous, number_in, kind_in, used_in, data_in, check_in, is_form_good, is_order_good, fault_of, on_fault, rows_of, blocks_of, scan_result, data_of}
+use Rattle.format.proofs.BlockFields.{Fit, content_of, content_fits, block_again, kind_numbered, number_numbered, used_numbered, front_numbered, check_numbered, form_numbered, length_numbered, content_numbered}
 use Rattle.format.proofs.Sequences.{shown, Follows, part_of}
 
 -- ---- a block without fault
@@ -36,20 +36,20 @@ went_on None r x e = (refl, e)
 went_on (Some y) r x e = let z : ◌≡◌ {A = ℕ} 0 1 = cc in absurd (omega arith)
 
 -- the bytes are laid out from the contents that the blocks say, and these are in order
-pub scanned_laid : (m k : ℕ) (p last : Previous) (file : List ℕ) → length file ≡ 512 * m → AreBytes file → scanned k p (rows_of m file) ≡ Ok last → last.kind ≡ 3
-    → (file ≡ laid k (map content_of (rows_of m file))) × Follows p (map content_of (rows_of m file))
-scanned_laid zero k p last file long small e end =
+pub scan_numbered : (m k : ℕ) (p last : Previous) (file : List ℕ) → length file ≡ 512 * m → AreBytes file → scan_result k p (rows_of m file) ≡ Ok last → last.kind ≡ 3
+    → (file ≡ numbered_blocks k (map content_of (rows_of m file))) × Follows p (map content_of (rows_of m file))
+scan_numbered zero k p last file long small e end =
     let same : p ≡ last = cc in
     (nil_from_length file (omega arith), ap (λ (q : Previous). q.kind) same ∙ end)
-scanned_laid (suc m) k p last file long small e end =
+scan_numbered (suc m) k p last file long small e end =
     let b : List ℕ = take 512 file in
     let more : List ℕ = drop 512 file in
-    let on = went_on (fault_of k p b) (scanned (suc k) (previous b) (rows_of m more)) last e in
+    let on = went_on (fault_of k p b) (scan_result (suc k) (previous b) (rows_of m more)) last e in
     let good : Faultless k p b = faultless k p b on.0 in
     let wide : length b ≡ 512 = length-take-le 512 file (omega arith) in
     let left : length more ≡ 512 * m = simp length-drop (omega arith) in
     let fits = content_fits b wide good.form in
-    let rest = scanned_laid m (suc k) (previous b) last more left (small_drop 512 file small) on.1 end in
+    let rest = scan_numbered m (suc k) (previous b) last more left (small_drop 512 file small) on.1 end in
     let here : b ≡ block_bytes k (content_of b) =
     block_again b wide (small_take 512 file small) good.form good.check ∙ ap (λ (n : ℕ). block_bytes n (content_of b)) good.number in
     let before : previous b ≡ shown (content_of b) = ap (λ (u : ℕ). record { kind = kind_in b; used = u }) (sym fits.0) in (
@@ -68,44 +68,44 @@ abbrev pub block_rows : ℕ → List Content → List (List ℕ)
 block_rows k [] = []
 block_rows k (c ∷ cs) = block_bytes k c ∷ block_rows (suc k) cs
 
-pub length_laid_all : (k : ℕ) (p : Previous) (cs : List Content) → Follows p cs → length (laid k cs) ≡ 512 * length cs
-length_laid_all k p [] f = refl
-length_laid_all k p (c ∷ cs) f =
-    let here : length (block_bytes k c) ≡ 512 = length_laid k c f.fit in
-    let more : length (laid (suc k) cs) ≡ 512 * length cs = length_laid_all (suc k) (shown c) cs f.rest in
-    length-append (block_bytes k c) (laid (suc k) cs) ∙ omega arith
+pub length_numbered_all : (k : ℕ) (p : Previous) (cs : List Content) → Follows p cs → length (numbered_blocks k cs) ≡ 512 * length cs
+length_numbered_all k p [] f = refl
+length_numbered_all k p (c ∷ cs) f =
+    let here : length (block_bytes k c) ≡ 512 = length_numbered k c f.fit in
+    let more : length (numbered_blocks (suc k) cs) ≡ 512 * length cs = length_numbered_all (suc k) (shown c) cs f.rest in
+    length-append (block_bytes k c) (numbered_blocks (suc k) cs) ∙ omega arith
 
 -- cut at 512 bytes, they are the blocks again
-pub rows_laid : (k : ℕ) (p : Previous) (cs : List Content) → Follows p cs → rows_of (length cs) (laid k cs) ≡ block_rows k cs
-rows_laid k p [] f = refl
-rows_laid k p (c ∷ cs) f =
-    let wide : length (block_bytes k c) ≡ 512 = length_laid k c f.fit in
+pub rows_numbered : (k : ℕ) (p : Previous) (cs : List Content) → Follows p cs → rows_of (length cs) (numbered_blocks k cs) ≡ block_rows k cs
+rows_numbered k p [] f = refl
+rows_numbered k p (c ∷ cs) f =
+    let wide : length (block_bytes k c) ≡ 512 = length_numbered k c f.fit in
     ap₂ (λ (b : List ℕ) (bs : List (List ℕ)). b ∷ bs)
-    (take_at (block_bytes k c) (laid (suc k) cs) 512 wide)
-    (ap (rows_of (length cs)) (drop_at (block_bytes k c) (laid (suc k) cs) 512 wide) ∙ rows_laid (suc k) (shown c) cs f.rest)
+    (take_at (block_bytes k c) (numbered_blocks (suc k) cs) 512 wide)
+    (ap (rows_of (length cs)) (drop_at (block_bytes k c) (numbered_blocks (suc k) cs) 512 wide) ∙ rows_numbered (suc k) (shown c) cs f.rest)
 
 -- they say the contents that they carry
 pub rows_contents : (k : ℕ) (p : Previous) (cs : List Content) → Follows p cs → map content_of (block_rows k cs) ≡ cs
 rows_contents k p [] f = refl
 rows_contents k p (c ∷ cs) f =
-    ap₂ (λ (d : Content) (ds : List Content). d ∷ ds) (content_laid k c f.fit) (rows_contents (suc k) (shown c) cs f.rest)
+    ap₂ (λ (d : Content) (ds : List Content). d ∷ ds) (content_numbered k c f.fit) (rows_contents (suc k) (shown c) cs f.rest)
 
 -- a block laid out in its place has no fault
-laid_no_fault : (k : ℕ) (p : Previous) (c : Content) → Fit c → is_order_good p c.kind ≡ true → k < 65536 → fault_of k p (block_bytes k c) ≡ None
-laid_no_fault k p c fit order below =
-    let right : check_in (block_bytes k c) ≡ check_of (take 508 (block_bytes k c)) = check_laid k c fit ∙ sym (ap check_of (front_laid k c fit)) in
-    grind (arith, nat_tests, right, number_laid k c below, form_laid k c fit, kind_laid k c, order)
+numbered_no_fault : (k : ℕ) (p : Previous) (c : Content) → Fit c → is_order_good p c.kind ≡ true → k < 65536 → fault_of k p (block_bytes k c) ≡ None
+numbered_no_fault k p c fit order below =
+    let right : check_in (block_bytes k c) ≡ check_of (take 508 (block_bytes k c)) = check_numbered k c fit ∙ sym (ap check_of (front_numbered k c fit)) in
+    grind (arith, nat_tests, right, number_numbered k c below, form_numbered k c fit, kind_numbered k c, order)
 
 -- a scan of contents in order meets no fault and ends at an end block
-pub rows_scanned : (k : ℕ) (p : Previous) (cs : List Content) → Follows p cs → k + length cs ≤ 65536
-    → (last : Previous) × (scanned k p (block_rows k cs) ≡ Ok last) × (last.kind ≡ 3)
-rows_scanned k p [] f limit = (p, refl, f)
-rows_scanned k p (c ∷ cs) f limit =
-    let rest = rows_scanned (suc k) (shown c) cs f.rest (omega arith) in
-    let none : fault_of k p (block_bytes k c) ≡ None = laid_no_fault k p c f.fit f.order (omega arith) in
-    let before : previous (block_bytes k c) ≡ shown c = λ i. record { kind = kind_laid k c i; used = used_laid k c f.fit i } in (
+pub rows_scan : (k : ℕ) (p : Previous) (cs : List Content) → Follows p cs → k + length cs ≤ 65536
+    → (last : Previous) × (scan_result k p (block_rows k cs) ≡ Ok last) × (last.kind ≡ 3)
+rows_scan k p [] f limit = (p, refl, f)
+rows_scan k p (c ∷ cs) f limit =
+    let rest = rows_scan (suc k) (shown c) cs f.rest (omega arith) in
+    let none : fault_of k p (block_bytes k c) ≡ None = numbered_no_fault k p c f.fit f.order (omega arith) in
+    let before : previous (block_bytes k c) ≡ shown c = λ i. record { kind = kind_numbered k c i; used = used_numbered k c f.fit i } in (
       rest.0,
-      (λ i. on_fault (none i) (scanned (suc k) (before i) (block_rows (suc k) cs))) ∙ rest.1,
+      (λ i. on_fault (none i) (scan_result (suc k) (before i) (block_rows (suc k) cs))) ∙ rest.1,
       rest.2,
     )
 

@@ -4,7 +4,7 @@ use native.Mathlib.Decide.{dec_le}
 use lib.ListN.{length-map}
 use Rattle.std.proofs.lemmas.Bool.{eq-eqb, eqb-true}
 use Rattle.std.proofs.lemmas.Bool.Decides.{nat_tests}
-use Rattle.format.specs.Layout.{Content, content, contents, cut_pieces, pieces, blocks_for}
+use Rattle.format.specs.Layout.{Content, content, contents, cut_pieces, data_pieces, blocks_for}
 use Rattle.format.specs.Faults.{Previous, first, is_order_good, is_used_fit}
 use Rattle.format.proofs.BlockFields.{Fit, used_some, used_limit}
 use Rattle.format.proofs.Pieces.{pieces_in, length_pieces, pieces_none, pieces_more, joined, joined_pieces}
@@ -63,7 +63,7 @@ none_after p [] f end = refl
 none_after p (c ∷ cs) f end = absurd (not_past_end p c.kind f.order end)
 
 -- a content comes first among the pieces of its kind
-first_piece : (c : Content) (cs : List Content) → Fit c → Follows (shown c) cs → pieces (c.bytes ++ part_of c.kind cs) ≡ c.bytes ∷ pieces (part_of c.kind cs)
+first_piece : (c : Content) (cs : List Content) → Fit c → Follows (shown c) cs → data_pieces (c.bytes ++ part_of c.kind cs) ≡ c.bytes ∷ data_pieces (part_of c.kind cs)
 first_piece c cs fit f =
     let some : 1 ≤ length c.bytes = used_some c.kind (length c.bytes) fit.used in
     let limit : length c.bytes ≤ 502 = used_limit c.kind (length c.bytes) fit.used in
@@ -78,9 +78,9 @@ abbrev pub Whole : List Content → Type 0
 Whole cs = (cs ≡ contents (part_of 1 cs) (part_of 2 cs) (part_of 3 cs)) × (length (part_of 3 cs) ≡ 16)
 
 -- with no header, the body comes first
-contents_body_first : (header body tag : List ℕ) → length header ≡ 0 → contents header body tag ≡ map (content 2) (pieces body) ++ (content 3 tag ∷ [])
+contents_body_first : (header body tag : List ℕ) → length header ≡ 0 → contents header body tag ≡ map (content 2) (data_pieces body) ++ (content 3 tag ∷ [])
 contents_body_first header body tag none =
-    ap (λ (ps : List (List ℕ)). map (content 1) ps ++ (map (content 2) (pieces body) ++ (content 3 tag ∷ []))) (pieces_none header none)
+    ap (λ (ps : List (List ℕ)). map (content 1) ps ++ (map (content 2) (data_pieces body) ++ (content 3 tag ∷ []))) (pieces_none header none)
 
 -- with no header and no body, only the tag is left
 contents_tag_only : (tag : List ℕ) → contents [] [] tag ≡ content 3 tag ∷ []
@@ -95,7 +95,7 @@ whole_kinds zero bytes cs fit f more = absurd (omega (arith, fit.low))
 whole_kinds (suc zero) bytes cs fit f more =
     let rest : Whole cs = more (omega arith) in (
       ap (λ (ds : List Content). content 1 bytes ∷ ds) rest.0
-          ∙ sym (ap (λ (ps : List (List ℕ)). map (content 1) ps ++ (map (content 2) (pieces (part_of 2 cs)) ++ (content 3 (part_of 3 cs) ∷ [])))
+          ∙ sym (ap (λ (ps : List (List ℕ)). map (content 1) ps ++ (map (content 2) (data_pieces (part_of 2 cs)) ++ (content 3 (part_of 3 cs) ∷ [])))
           (first_piece (content 1 bytes) cs fit f)),
       rest.1,
     )
@@ -153,14 +153,14 @@ module _ (kind : ℕ) (low : 1 ≤ kind) (high : kind ≤ 2) (others : List Cont
       }
 
   -- after a lower kind, the pieces of a whole part
-  part_follows : (part : List ℕ) (p : Previous) → p.kind < kind → Follows p (map (content kind) (pieces part) ++ others)
-  unfolding pieces
+  part_follows : (part : List ℕ) (p : Previous) → p.kind < kind → Follows p (map (content kind) (data_pieces part) ++ others)
+  unfolding data_pieces
   part_follows part p before = cut_follows (pieces_in (length part)) part refl p (omega arith) (λ some same. absurd (omega arith))
 
 -- blocks of a header, a body and a tag may stand first in a file
 pub contents_follow : (header body tag : List ℕ) → length tag ≡ 16 → Follows first (contents header body tag)
 contents_follow header body tag sixteen =
-    part_follows 1 (omega arith) (omega arith) (map (content 2) (pieces body) ++ (content 3 tag ∷ []))
+    part_follows 1 (omega arith) (omega arith) (map (content 2) (data_pieces body) ++ (content 3 tag ∷ []))
     (λ q before.
     part_follows 2 (omega arith) (omega arith) (content 3 tag ∷ []) (end_follows tag sixteen) body q (omega arith))
     header first (omega arith)
@@ -180,28 +180,28 @@ part_other kind other apart (p ∷ ps) cs =
 
 module _ (header body tag : List ℕ) where
   abbrev body_on : List Content
-  body_on = map (content 2) (pieces body) ++ (content 3 tag ∷ [])
+  body_on = map (content 2) (data_pieces body) ++ (content 3 tag ∷ [])
 
   pub header_part : part_of 1 (contents header body tag) ≡ header
   header_part =
-      part_same 1 (pieces header) body_on
-      ∙ ap₂ (λ (xs ys : List ℕ). xs ++ ys) (joined_pieces header) (part_other 1 2 refl (pieces body) (content 3 tag ∷ []))
+      part_same 1 (data_pieces header) body_on
+      ∙ ap₂ (λ (xs ys : List ℕ). xs ++ ys) (joined_pieces header) (part_other 1 2 refl (data_pieces body) (content 3 tag ∷ []))
       ∙ append-nil header
 
   pub body_part : part_of 2 (contents header body tag) ≡ body
   body_part =
-      part_other 2 1 refl (pieces header) body_on
-      ∙ part_same 2 (pieces body) (content 3 tag ∷ [])
-      ∙ append-nil (joined (pieces body)) ∙ joined_pieces body
+      part_other 2 1 refl (data_pieces header) body_on
+      ∙ part_same 2 (data_pieces body) (content 3 tag ∷ [])
+      ∙ append-nil (joined (data_pieces body)) ∙ joined_pieces body
 
   pub tag_part : part_of 3 (contents header body tag) ≡ tag
   tag_part =
-      part_other 3 1 refl (pieces header) body_on
-      ∙ part_other 3 2 refl (pieces body) (content 3 tag ∷ [])
+      part_other 3 1 refl (data_pieces header) body_on
+      ∙ part_other 3 2 refl (data_pieces body) (content 3 tag ∷ [])
       ∙ append-nil tag
 
   pub length_contents : length (contents header body tag) ≡ blocks_for (length header) (length body)
   length_contents =
-      let h : length (pieces header) ≡ pieces_in (length header) = length_pieces header in
-      let b : length (pieces body) ≡ pieces_in (length body) = length_pieces body in
+      let h : length (data_pieces header) ≡ pieces_in (length header) = length_pieces header in
+      let b : length (data_pieces body) ≡ pieces_in (length body) = length_pieces body in
       simp (length-append, length-map) (omega arith)

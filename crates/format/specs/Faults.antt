@@ -97,9 +97,9 @@ on_fault None r = r
 on_fault (Some e) r = Err e
 
 -- block by block, from block k on: the first fault, or the last block's kind and used length
-abbrev pub scanned : ℕ → Previous → List (List ℕ) → Result Previous Refusal
-scanned k p [] = Ok p
-scanned k p (b ∷ bs) = on_fault (fault_of k p b) (scanned (suc k) (previous b) bs)
+abbrev pub scan_result : ℕ → Previous → List (List ℕ) → Result Previous Refusal
+scan_result k p [] = Ok p
+scan_result k p (b ∷ bs) = on_fault (fault_of k p b) (scan_result (suc k) (previous b) bs)
 
 -- the data of all blocks of a kind, joined
 abbrev pub data_of : ℕ → List (List ℕ) → List ℕ

@@ -1,7 +1,7 @@
 -- Why a file is refused: its size, its first flaw, want of an end, its header's length, or its tag.
 use Rattle.std.specs.Prelude.{◌≡◌, ◌≢◌, ℕ, ◌-◌, ◌/◌, ◌%◌, ◌<◌, ◌≤◌, List, All, length, take}
 use Rattle.field.specs.Bytes.{bytes_of}
-use Rattle.field.specs.declared.kinds.Block.{Block}
+use Rattle.field.specs.declared.block.Block.{Block}
 use Rattle.message.specs.Limits.{header_limit}
 use Rattle.message.specs.Hash.{tag_of}
 use Rattle.refusal.specs.declared.Refusal.{Refusal}

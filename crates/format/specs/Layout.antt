@@ -4,7 +4,7 @@ use Rattle.field.specs.Bytes.{bytes_of}
 use Rattle.field.specs.Digits.{digits}
 use Rattle.field.specs.Evaluation.{eval}
 use Rattle.field.specs.Kinds.{word, word_ring}
-use Rattle.field.specs.declared.kinds.Block.{Block}
+use Rattle.field.specs.declared.block.Block.{Block}
 use Rattle.message.specs.Hash.{tag_of}
 
 -- What one block carries: its kind (1 header, 2 body, 3 end) and its data.
@@ -37,24 +37,24 @@ cut_pieces zero bytes = []
 cut_pieces (suc n) bytes = take 502 bytes ∷ cut_pieces n (drop 502 bytes)
 
 -- a part in pieces of 502 bytes, the last of which may be shorter; none for an empty part
-unfoldable pub pieces : List ℕ → List (List ℕ)
-pieces bytes = cut_pieces ((length bytes + 501) / 502) bytes
+unfoldable pub data_pieces : List ℕ → List (List ℕ)
+data_pieces bytes = cut_pieces ((length bytes + 501) / 502) bytes
 
 abbrev pub content : ℕ → List ℕ → Content
 content kind bytes = record { kind = kind; bytes = bytes }
 
 -- header blocks, body blocks, one end block with the tag
 abbrev pub contents : List ℕ → List ℕ → List ℕ → List Content
-contents header body tag = map (content 1) (pieces header) ++ (map (content 2) (pieces body) ++ (content 3 tag ∷ []))
+contents header body tag = map (content 1) (data_pieces header) ++ (map (content 2) (data_pieces body) ++ (content 3 tag ∷ []))
 
 -- blocks with numbers from n on
-abbrev pub laid : ℕ → List Content → List ℕ
-laid n [] = []
-laid n (c ∷ cs) = block_bytes n c ++ laid (suc n) cs
+abbrev pub numbered_blocks : ℕ → List Content → List ℕ
+numbered_blocks n [] = []
+numbered_blocks n (c ∷ cs) = block_bytes n c ++ numbered_blocks (suc n) cs
 
 -- the file that seals a header and a body under a subkey and a pad
-unfoldable pub sealed : Block → Block → List ℕ → List ℕ → List ℕ
-sealed subkey pad header body = laid 0 (contents header body (bytes_of (tag_of subkey pad header body)))
+unfoldable pub sealed_file : Block → Block → List ℕ → List ℕ → List ℕ
+sealed_file subkey pad header body = numbered_blocks 0 (contents header body (bytes_of (tag_of subkey pad header body)))
 
 -- how many blocks that file has
 abbrev pub blocks_for : ℕ → ℕ → ℕ

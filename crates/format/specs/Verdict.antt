@@ -1,13 +1,13 @@
 -- What a file check answers.
 use Rattle.std.specs.Prelude.{◌≡◌, ℕ, ◌/◌, ◌≤◌, ◌↔◌, if◌then◌else◌, List, length, Ok, Err, Result, IsOk, IfOk, ◌==◌, nat_le}
 use Rattle.field.specs.Digits.{numeral}
-use Rattle.field.specs.declared.kinds.Block.{Block}
+use Rattle.field.specs.declared.block.Block.{Block}
 use Rattle.message.specs.Limits.{header_limit}
 use Rattle.message.specs.Hash.{tag_of}
 use Rattle.refusal.specs.declared.Refusal.{Refusal}
 use Rattle.refusal.specs.declared.Refusal.TheVariants.{HeaderTooLong, TagDiffers, FileSize, NoEnd}
-use Rattle.format.specs.Faults.{first, is_size_good, blocks_of, scanned, header_in, body_in, tag_in}
-use Rattle.format.specs.Layout.{sealed, blocks_for}
+use Rattle.format.specs.Faults.{first, is_size_good, blocks_of, scan_result, header_in, body_in, tag_in}
+use Rattle.format.specs.Layout.{sealed_file, blocks_for}
 use Rattle.format.specs.declared.lengths.Lengths.{Lengths}
 
 abbrev pub after : {T U E : Type 0} → Result T E → (T → Result U E) → Result U E
@@ -21,7 +21,7 @@ lengths_of header body = record { header = length header; body = length body }
 abbrev pub scan_answer : List ℕ → Result Lengths Refusal
 scan_answer file =
     if is_size_good file
-    then after (scanned 0 first (blocks_of file)) (λ last.
+    then after (scan_result 0 first (blocks_of file)) (λ last.
     if last.kind == 3
     then Ok (lengths_of (header_in file) (body_in file))
     else Err (NoEnd (length file / 512)))
@@ -51,7 +51,7 @@ pub record IsSealOf (subkey pad : Block) (header body file : List ℕ) : Type 0 
   -- no file has more blocks
   pub few : blocks_for (length header) (length body) ≤ 65536
   -- byte for byte
-  pub made : file ≡ sealed subkey pad header body
+  pub made : file ≡ sealed_file subkey pad header body
 
 -- An answer that accepts exactly the files that the writer makes.
 pub record Exact (subkey pad : Block) (file : List ℕ) (answer : Result Lengths Refusal) : Type 0 where
@@ -66,6 +66,6 @@ pub record Exact (subkey pad : Block) (file : List ℕ) (answer : Result Lengths
 
 -- What a header and a body are sealed into is accepted, and both are read out of it again.
 pub record Reopens (subkey pad : Block) (header body : List ℕ) : Type 0 where
-  pub accepted : verdict subkey pad (sealed subkey pad header body) ≡ Ok (lengths_of header body)
-  pub header_again : header_in (sealed subkey pad header body) ≡ header
-  pub body_again : body_in (sealed subkey pad header body) ≡ body
+  pub accepted : verdict subkey pad (sealed_file subkey pad header body) ≡ Ok (lengths_of header body)
+  pub header_again : header_in (sealed_file subkey pad header body) ≡ header
+  pub body_again : body_in (sealed_file subkey pad header body) ≡ body

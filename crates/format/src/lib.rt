@@ -2,12 +2,12 @@
 #![tactic(auto)]
 
 mod check;
-mod kind;
+mod block_kind;
 mod layout;
 mod lengths;
 
 pub use check::block_check;
-pub use kind::{Kind, NoKind};
+pub use block_kind::{BlockKind, NoKind};
 pub use layout::{
     BLOCK_BYTES, CHECK_AT, DATA_AT, DATA_BYTES, LARGEST_FILE, MOST_BLOCKS, blocks_for,
 };

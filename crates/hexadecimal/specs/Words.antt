@@ -1,7 +1,7 @@
 -- What each call answers to a text: the length is looked at first, then the digits from the left, then the room.
 use Rattle.std.specs.Prelude.{◌≡◌, ℕ, ◌/◌, ◌%◌, cond, List, ◌++◌, length, drop, Some, None, Ok, Err, Option, Result, ◌==◌, nat_le}
 use Rattle.field.specs.Kinds.{block}
-use Rattle.field.specs.declared.kinds.Block.{Block}
+use Rattle.field.specs.declared.block.Block.{Block}
 use Rattle.hexadecimal.specs.declared.HexFault.{HexFault}
 use Rattle.hexadecimal.specs.declared.HexFault.TheVariants.{WrongLength, NotADigit, RowTooShort}
 use Rattle.hexadecimal.specs.Digits.{first_bad, number_in, bytes_from}

@@ -2,7 +2,7 @@
 use Rattle.std.proofs.Common.{◌≡◌, ℕ, zero, suc, ◌+◌, ◌-◌, ◌*◌, ◌/◌, ◌<◌, ◌≤◌, List, [], ◌∷◌, ◌++◌, length, take, drop, sym, refl, ap, ◌∙◌, ap₂, zero-add, arith, length-append, length-drop}
 use Rattle.std.proofs.lemmas.List.{take-append-le, drop-append-le, drop-drop, drop_all}
 use Rattle.field.specs.Bytes.{block_of}
-use Rattle.message.specs.Blocks.{blocks_taken, filled, cut, blocks}
+use Rattle.message.specs.Blocks.{blocks_taken, filled_piece, cut, blocks}
 use Rattle.job.specs.Cuts.{full_blocks, left_over}
 
 cut_front : (n : ℕ) (xs ys : List ℕ) → 16 * n ≤ length xs → cut n (xs ++ ys) ≡ cut n xs
@@ -10,7 +10,7 @@ cut_front zero xs ys within = refl
 cut_front (suc n) xs ys within =
     let some : 16 ≤ length xs = omega arith in
     let more : 16 * n ≤ length (drop 16 xs) = simp length-drop (omega arith) in
-    ap₂ (λ p r. block_of (filled p) ∷ r) (take-append-le 16 xs ys some)
+    ap₂ (λ p r. block_of (filled_piece p) ∷ r) (take-append-le 16 xs ys some)
     (ap (cut n) (drop-append-le 16 xs ys some) ∙ cut_front n (drop 16 xs) ys more)
 
 cut_split : (n k : ℕ) (xs : List ℕ) → cut (n + k) xs ≡ cut n xs ++ cut k (drop (16 * n) xs)
@@ -20,7 +20,7 @@ cut_split (suc n) k xs =
     let further : 16 + 16 * n ≡ 16 * suc n = omega arith in
     let d : drop (16 * n) (drop 16 xs) ≡ drop (16 * suc n) xs = drop-drop (16 * n) 16 xs ∙ ap (λ j. drop j xs) further in
     ap (λ j. cut j xs) e
-    ∙ ap (λ r. block_of (filled (take 16 xs)) ∷ r) (cut_split n k (drop 16 xs) ∙ ap (λ r. cut n (drop 16 xs) ++ cut k r) d)
+    ∙ ap (λ r. block_of (filled_piece (take 16 xs)) ∷ r) (cut_split n k (drop 16 xs) ∙ ap (λ r. cut n (drop 16 xs) ++ cut k r) d)
 
 module _ (xs ys : List ℕ) where
   whole_count : length (xs ++ ys) / 16 ≡ length xs / 16 + length (left_over xs ++ ys) / 16
@@ -55,7 +55,7 @@ pub left_short : (xs : List ℕ) → length xs < 16 → left_over xs ≡ xs
 unfolding left_over
 left_short xs short = let e : 16 * (length xs / 16) ≡ 0 = omega arith in ap (λ n. drop n xs) e
 
-pub full_one : (xs : List ℕ) → length xs ≡ 16 → full_blocks xs ≡ block_of (filled (take 16 xs)) ∷ []
+pub full_one : (xs : List ℕ) → length xs ≡ 16 → full_blocks xs ≡ block_of (filled_piece (take 16 xs)) ∷ []
 unfolding full_blocks
 full_one xs sixteen = let e : length xs / 16 ≡ 1 = omega arith in ap (λ n. cut n xs) e
 
@@ -64,7 +64,7 @@ unfolding left_over
 left_none xs sixteen = drop_all _ xs (omega arith)
 
 -- the bytes that wait at the end of a part
-pub last_block : (xs : List ℕ) → 0 < length xs → length xs ≤ 16 → blocks xs ≡ block_of (filled (take 16 xs)) ∷ []
+pub last_block : (xs : List ℕ) → 0 < length xs → length xs ≤ 16 → blocks xs ≡ block_of (filled_piece (take 16 xs)) ∷ []
 unfolding blocks
 last_block xs some few = let one : blocks_taken (length xs) ≡ 1 = omega arith in ap (λ n. cut n xs) one
 

@@ -2,18 +2,18 @@
 use Rattle.std.proofs.Common.{◌≡◌, ℕ, suc, ◌+◌, Bool, List, [], ◌∷◌, ◌++◌, length, sym, refl, ap, ◌∙◌, subst, ap₂, arith, length-append}
 use Rattle.field.specs.Evaluation.{power, eval}
 use Rattle.field.specs.Kinds.{block_ring}
-use Rattle.field.specs.declared.kinds.Block.{Block}
+use Rattle.field.specs.declared.block.Block.{Block}
 use Rattle.field.proofs.Horner.{sum_product}
 use Rattle.field.specs.Instances.{block_ring_laws}
 use Rattle.message.specs.Blocks.{blocks_taken, blocks, block_of_lengths, block_list}
 use Rattle.message.specs.Hash.{hash_of}
 use Rattle.message.proofs.Cutting.{length_blocks}
 use Rattle.engine.specs.declared.engine.Engine.{Ghosts}
-use Rattle.job.specs.Differences.{xored, SameLengths, difference_of, XorIsEvaluation, RunsXorIsEvaluation}
+use Rattle.job.specs.Differences.{xor_list, SameLengths, difference_of, XorIsEvaluation, RunsXorIsEvaluation}
 use Rattle.job.specs.Jobs.{Closes}
 use Rattle.job.specs.Runs.{hash_of_run, taken_header, taken_body, Replays}
 use Rattle.job.specs.declared.call.Calls.{Calls}
-use Rattle.job.specs.declared.state.Closed.{Closed}
+use Rattle.job.specs.declared.closed.Closed.{Closed}
 
 four : (a b c d : Block) → block_ring.sum (block_ring.sum a b) (block_ring.sum c d) ≡ block_ring.sum (block_ring.sum a c) (block_ring.sum b d)
 four a b c d =
@@ -22,22 +22,22 @@ four a b c d =
     (sym (block_ring_laws.sum_assoc b c d) ∙ ap (λ x. block_ring.sum x d) (block_ring_laws.sum_comm b c) ∙ block_ring_laws.sum_assoc c b d)
     ∙ sym (block_ring_laws.sum_assoc a c (block_ring.sum b d))
 
-length_xored : (ps qs : List Block) → length ps ≡ length qs → length (xored ps qs) ≡ length ps
-length_xored [] qs same = refl
-length_xored (p ∷ ps) [] same = absurd (omega arith)
-length_xored (p ∷ ps) (q ∷ qs) same = ap suc (length_xored ps qs (omega arith))
+length_xor_list : (ps qs : List Block) → length ps ≡ length qs → length (xor_list ps qs) ≡ length ps
+length_xor_list [] qs same = refl
+length_xor_list (p ∷ ps) [] same = absurd (omega arith)
+length_xor_list (p ∷ ps) (q ∷ qs) same = ap suc (length_xor_list ps qs (omega arith))
 
-eval_xored : (h : Block) (ps qs : List Block) → length ps ≡ length qs
-    → eval block_ring h (xored ps qs) ≡ block_ring.sum (eval block_ring h ps) (eval block_ring h qs)
-eval_xored h [] [] same = sym (block_ring_laws.sum_zero block_ring.zero)
-eval_xored h [] (q ∷ qs) same = absurd (omega arith)
-eval_xored h (p ∷ ps) [] same = absurd (omega arith)
-eval_xored h (p ∷ ps) (q ∷ qs) same =
+eval_xor_list : (h : Block) (ps qs : List Block) → length ps ≡ length qs
+    → eval block_ring h (xor_list ps qs) ≡ block_ring.sum (eval block_ring h ps) (eval block_ring h qs)
+eval_xor_list h [] [] same = sym (block_ring_laws.sum_zero block_ring.zero)
+eval_xor_list h [] (q ∷ qs) same = absurd (omega arith)
+eval_xor_list h (p ∷ ps) [] same = absurd (omega arith)
+eval_xor_list h (p ∷ ps) (q ∷ qs) same =
     let one_less : length ps ≡ length qs = omega arith in
     let w : Block = power block_ring h (suc (length ps)) in
     ap₂ block_ring.sum
-    (ap (λ n. block_ring.product (block_ring.sum p q) (power block_ring h (suc n))) (length_xored ps qs one_less) ∙ sum_product block_ring block_ring_laws p q w)
-    (eval_xored h ps qs one_less)
+    (ap (λ n. block_ring.product (block_ring.sum p q) (power block_ring h (suc n))) (length_xor_list ps qs one_less) ∙ sum_product block_ring block_ring_laws p q w)
+    (eval_xor_list h ps qs one_less)
     ∙ four (block_ring.product p w) (block_ring.product q w) (eval block_ring h ps) (eval block_ring h qs)
     ∙ ap (λ n. block_ring.sum (eval block_ring h (p ∷ ps)) (block_ring.sum (block_ring.product q (power block_ring h (suc n))) (eval block_ring h qs))) one_less
 
@@ -52,7 +52,7 @@ pub hashes_differ : (h : Block) (header body header' body' : List ℕ) → SameL
 unfolding hash_of difference_of
 hashes_differ h header body header' body' same =
     sym
-    (eval_xored h (block_list header body) (block_list header' body')
+    (eval_xor_list h (block_list header body) (block_list header' body')
     (block_count_same header body ∙ ap₂ (λ m n. blocks_taken m + (blocks_taken n + 1)) same.0 same.1 ∙ sym (block_count_same header' body')))
 
 -- what is said of two closed jobs, of the runs that they end

@@ -2,13 +2,13 @@
 use Rattle.std.proofs.Common.{◌≡◌, ℕ, List, [], ◌∷◌, ◌++◌, map, length, drop, is_ok, sym, refl, ap, ◌∙◌, ap₂, append_assoc, append-nil}
 use Rattle.std.proofs.lemmas.List.{drop_at}
 use Rattle.field.specs.Kinds.{block_ring}
-use Rattle.field.specs.declared.kinds.Block.{Block}
+use Rattle.field.specs.declared.block.Block.{Block}
 use Rattle.message.specs.Blocks.{blocks, block_of_counts}
 use Rattle.message.proofs.StandardHash.{lengths_counts}
 use Rattle.engine.specs.Chain.{Operation, absorb}
 use Rattle.job.specs.Cuts.{full_blocks, left_over}
-use Rattle.job.specs.Plain.{Answer, brought, accepted}
-use Rattle.job.specs.Runs.{new_blocks, final_block, operations_for, operations_of, gathered, absorb_of, switch_of, resume_of, switch_answers, InOrder}
+use Rattle.job.specs.Plain.{Answer, call_bytes, accepted_bytes}
+use Rattle.job.specs.Runs.{new_blocks, final_block, operations_for, operations_of, flat_map, absorb_of, switch_of, resume_of, switch_answers, InOrder}
 use Rattle.job.specs.declared.call.Call.{Call}
 use Rattle.job.specs.declared.call.Call.TheVariants.{Feed, Switch}
 use Rattle.job.proofs.Answering.{new_blocks_follow, no_new_blocks}
@@ -40,60 +40,60 @@ whole_part taken = ap (λ ps. full_blocks taken ++ ps) (last_left taken) ∙ sym
 
 -- ---- what is gathered from the operations
 
-gathered_append : {X : Type 0} (f : Operation → List X) (os ps : List Operation) → gathered f (os ++ ps) ≡ gathered f os ++ gathered f ps
-gathered_append f [] ps = refl
-gathered_append f (o ∷ os) ps = ap (λ xs. f o ++ xs) (gathered_append f os ps) ∙ sym (append_assoc (f o) (gathered f os) (gathered f ps))
+flat_map_append : {X : Type 0} (f : Operation → List X) (os ps : List Operation) → flat_map f (os ++ ps) ≡ flat_map f os ++ flat_map f ps
+flat_map_append f [] ps = refl
+flat_map_append f (o ∷ os) ps = ap (λ xs. f o ++ xs) (flat_map_append f os ps) ∙ sym (append_assoc (f o) (flat_map f os) (flat_map f ps))
 
-absorbs_of : (ps : List Block) → gathered absorb_of (map absorb ps) ≡ ps
+absorbs_of : (ps : List Block) → flat_map absorb_of (map absorb ps) ≡ ps
 absorbs_of [] = refl
 absorbs_of (p ∷ ps) = ap (λ xs. p ∷ xs) (absorbs_of ps)
 
 -- absorbs give nothing but their blocks
-none_of : {X : Type 0} (f : Operation → List X) → ((p : Block) → f (absorb p) ≡ []) → (ps : List Block) → gathered f (map absorb ps) ≡ []
+none_of : {X : Type 0} (f : Operation → List X) → ((p : Block) → f (absorb p) ≡ []) → (ps : List Block) → flat_map f (map absorb ps) ≡ []
 none_of f none [] = refl
-none_of f none (p ∷ ps) = ap (λ xs. xs ++ gathered f (map absorb ps)) (none p) ∙ none_of f none ps
+none_of f none (p ∷ ps) = ap (λ xs. xs ++ flat_map f (map absorb ps)) (none p) ∙ none_of f none ps
 
-absorbs_for : (taken : List ℕ) (c : Call) (a : Answer) → gathered absorb_of (operations_for taken c a) ≡ new_blocks taken (brought c a)
-absorbs_for taken (Feed piece) a = absorbs_of (new_blocks taken (brought (Feed piece) a))
+absorbs_for : (taken : List ℕ) (c : Call) (a : Answer) → flat_map absorb_of (operations_for taken c a) ≡ new_blocks taken (call_bytes c a)
+absorbs_for taken (Feed piece) a = absorbs_of (new_blocks taken (call_bytes (Feed piece) a))
 absorbs_for taken Switch a = sym (no_new_blocks taken)
 
-absorbs_in : (taken : List ℕ) (cs : List Call) (xs : List Answer) → gathered absorb_of (operations_of taken cs xs) ≡ new_blocks taken (accepted cs xs)
+absorbs_in : (taken : List ℕ) (cs : List Call) (xs : List Answer) → flat_map absorb_of (operations_of taken cs xs) ≡ new_blocks taken (accepted_bytes cs xs)
 absorbs_in taken [] xs = sym (no_new_blocks taken)
 absorbs_in taken (c ∷ cs) [] = sym (no_new_blocks taken)
 absorbs_in taken (c ∷ cs) (x ∷ xs) =
-    gathered_append absorb_of (operations_for taken c x) (operations_of (taken ++ brought c x) cs xs)
-    ∙ ap₂ (λ ps qs. ps ++ qs) (absorbs_for taken c x) (absorbs_in (taken ++ brought c x) cs xs)
-    ∙ sym (new_append taken (brought c x) (accepted cs xs))
+    flat_map_append absorb_of (operations_for taken c x) (operations_of (taken ++ call_bytes c x) cs xs)
+    ∙ ap₂ (λ ps qs. ps ++ qs) (absorbs_for taken c x) (absorbs_in (taken ++ call_bytes c x) cs xs)
+    ∙ sym (new_append taken (call_bytes c x) (accepted_bytes cs xs))
 
-switches_in : (taken : List ℕ) (cs : List Call) (xs : List Answer) → gathered switch_of (operations_of taken cs xs) ≡ switch_answers cs xs
+switches_in : (taken : List ℕ) (cs : List Call) (xs : List Answer) → flat_map switch_of (operations_of taken cs xs) ≡ switch_answers cs xs
 switches_in taken [] xs = refl
 switches_in taken (c ∷ cs) [] = refl
 switches_in taken (Feed piece ∷ cs) (x ∷ xs) =
-    gathered_append switch_of (operations_for taken (Feed piece) x) (operations_of (taken ++ brought (Feed piece) x) cs xs)
-    ∙ ap₂ (λ ps qs. ps ++ qs) (none_of switch_of (λ p. refl) (new_blocks taken (brought (Feed piece) x))) (switches_in (taken ++ brought (Feed piece) x) cs xs)
+    flat_map_append switch_of (operations_for taken (Feed piece) x) (operations_of (taken ++ call_bytes (Feed piece) x) cs xs)
+    ∙ ap₂ (λ ps qs. ps ++ qs) (none_of switch_of (λ p. refl) (new_blocks taken (call_bytes (Feed piece) x))) (switches_in (taken ++ call_bytes (Feed piece) x) cs xs)
 switches_in taken (Switch ∷ cs) (x ∷ xs) = ap (λ bs. is_ok x ∷ bs) (switches_in (taken ++ []) cs xs)
 
-resumes_in : (taken : List ℕ) (cs : List Call) (xs : List Answer) → gathered resume_of (operations_of taken cs xs) ≡ []
+resumes_in : (taken : List ℕ) (cs : List Call) (xs : List Answer) → flat_map resume_of (operations_of taken cs xs) ≡ []
 resumes_in taken [] xs = refl
 resumes_in taken (c ∷ cs) [] = refl
 resumes_in taken (Feed piece ∷ cs) (x ∷ xs) =
-    gathered_append resume_of (operations_for taken (Feed piece) x) (operations_of (taken ++ brought (Feed piece) x) cs xs)
-    ∙ ap₂ (λ ps qs. ps ++ qs) (none_of resume_of (λ p. refl) (new_blocks taken (brought (Feed piece) x))) (resumes_in (taken ++ brought (Feed piece) x) cs xs)
+    flat_map_append resume_of (operations_for taken (Feed piece) x) (operations_of (taken ++ call_bytes (Feed piece) x) cs xs)
+    ∙ ap₂ (λ ps qs. ps ++ qs) (none_of resume_of (λ p. refl) (new_blocks taken (call_bytes (Feed piece) x))) (resumes_in (taken ++ call_bytes (Feed piece) x) cs xs)
 resumes_in taken (Switch ∷ cs) (x ∷ xs) = resumes_in (taken ++ []) cs xs
 
 -- ---- the whole job
 
 four_parts : {X : Type 0} (f : Operation → List X) (os ps qs rs : List Operation)
-    → gathered f (os ++ (ps ++ (qs ++ rs))) ≡ gathered f os ++ (gathered f ps ++ (gathered f qs ++ gathered f rs))
+    → flat_map f (os ++ (ps ++ (qs ++ rs))) ≡ flat_map f os ++ (flat_map f ps ++ (flat_map f qs ++ flat_map f rs))
 four_parts f os ps qs rs =
-    gathered_append f os (ps ++ (qs ++ rs))
-    ∙ ap (λ xs. gathered f os ++ xs)
-    (gathered_append f ps (qs ++ rs) ∙ ap (λ xs. gathered f ps ++ xs) (gathered_append f qs rs))
+    flat_map_append f os (ps ++ (qs ++ rs))
+    ∙ ap (λ xs. flat_map f os ++ xs)
+    (flat_map_append f ps (qs ++ rs) ∙ ap (λ xs. flat_map f ps ++ xs) (flat_map_append f qs rs))
 
 pub in_order : (hs : List Call) (xs : List Answer) (bs : List Call) (ys : List Answer) → InOrder hs xs bs ys
 in_order hs xs bs ys =
-    let header : List ℕ = accepted hs xs in
-    let body : List ℕ = accepted bs ys in
+    let header : List ℕ = accepted_bytes hs xs in
+    let body : List ℕ = accepted_bytes bs ys in
     let lengths : Block = block_of_counts (length header) (length body) in
     let ends : List Block = final_block body ++ (lengths ∷ []) in
     record {

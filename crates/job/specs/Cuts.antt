@@ -1,6 +1,6 @@
 -- The blocks of a part that are already full, and the bytes after them.
 use Rattle.std.specs.Prelude.{ℕ, ◌*◌, ◌/◌, List, length, drop}
-use Rattle.field.specs.declared.kinds.Block.{Block}
+use Rattle.field.specs.declared.block.Block.{Block}
 use Rattle.message.specs.Blocks.{cut}
 
 unfoldable pub full_blocks : List ℕ → List Block

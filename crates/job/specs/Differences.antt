@@ -2,25 +2,25 @@
 use Rattle.std.specs.Prelude.{◌≡◌, ℕ, Bool, List, [], ◌∷◌, length}
 use Rattle.field.specs.Evaluation.{eval}
 use Rattle.field.specs.Kinds.{block_ring}
-use Rattle.field.specs.declared.kinds.Block.{Block}
+use Rattle.field.specs.declared.block.Block.{Block}
 use Rattle.message.specs.Blocks.{block_list}
 use Rattle.engine.specs.declared.engine.Engine.{Ghosts}
 use Rattle.job.specs.Jobs.{Closes}
 use Rattle.job.specs.Runs.{taken_header, taken_body}
 use Rattle.job.specs.declared.call.Calls.{Calls}
-use Rattle.job.specs.declared.state.Closed.{Closed}
+use Rattle.job.specs.declared.closed.Closed.{Closed}
 
-abbrev pub xored : List Block → List Block → List Block
-xored [] qs = []
-xored (p ∷ ps) [] = []
-xored (p ∷ ps) (q ∷ qs) = block_ring.sum p q ∷ xored ps qs
+abbrev pub xor_list : List Block → List Block → List Block
+xor_list [] qs = []
+xor_list (p ∷ ps) [] = []
+xor_list (p ∷ ps) (q ∷ qs) = block_ring.sum p q ∷ xor_list ps qs
 
 abbrev pub SameLengths : List ℕ → List ℕ → List ℕ → List ℕ → Type 0
 SameLengths header body header' body' = (length header ≡ length header') × (length body ≡ length body')
 
 -- the evaluation, at the subkey, of both block lists xored
 unfoldable pub difference_of : Block → List ℕ → List ℕ → List ℕ → List ℕ → Block
-difference_of h header body header' body' = eval block_ring h (xored (block_list header body) (block_list header' body'))
+difference_of h header body header' body' = eval block_ring h (xor_list (block_list header body) (block_list header' body'))
 
 module _ {A B : Type 0} (a : Ghosts A) (b : Ghosts B) where
   -- The hashes of two closed jobs, xored, are that evaluation, where both have one subkey and the same lengths.

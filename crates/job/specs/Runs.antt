@@ -1,7 +1,7 @@
 -- Lists of calls: what a job's engine goes through, and what comes of it.
 use Rattle.std.specs.Prelude.{◌≡◌, ℕ, ◌≤◌, Bool, List, [], ◌∷◌, ◌++◌, map, length, take, drop, is_ok}
 use Rattle.field.specs.Kinds.{block_ring}
-use Rattle.field.specs.declared.kinds.Block.{Block}
+use Rattle.field.specs.declared.block.Block.{Block}
 use Rattle.message.specs.Limits.{header_limit, body_limit}
 use Rattle.message.specs.Blocks.{blocks, block_of_counts, block_list}
 use Rattle.message.specs.Hash.{hash_of}
@@ -10,13 +10,13 @@ use Rattle.engine.specs.Chain.{Operation, resume, absorb, switch, Chain}
 use Rattle.engine.specs.declared.engine.Engine.{Ghosts}
 use Rattle.job.specs.Cuts.{full_blocks}
 use Rattle.job.specs.Jobs.{Holds, Closes}
-use Rattle.job.specs.Plain.{Answer, brought, accepted, answers_to, part_answers, bytes_taken}
+use Rattle.job.specs.Plain.{Answer, call_bytes, accepted_bytes, answers_to, part_answers, bytes_taken}
 use Rattle.job.specs.declared.call.Call.{Call}
 use Rattle.job.specs.declared.call.Calls.{Calls}
 use Rattle.job.specs.declared.call.Call.TheVariants.{Feed, Switch}
 use Rattle.message.specs.declared.part.Part.TheVariants.{Header, Body}
-use Rattle.job.specs.declared.state.Closed.{Closed}
-use Rattle.job.specs.declared.state.Filling.{Filling}
+use Rattle.job.specs.declared.closed.Closed.{Closed}
+use Rattle.job.specs.declared.block_buffer.BlockBuffer.{BlockBuffer}
 
 -- the blocks that become full when a piece joins the taken bytes
 abbrev pub new_blocks : List ℕ → List ℕ → List Block
@@ -28,19 +28,19 @@ final_block taken = drop (length (full_blocks taken)) (blocks taken)
 
 -- What the engine goes through for a call: the blocks that its piece fills, or the switch with its answer.
 abbrev pub operations_for : List ℕ → Call → Answer → List Operation
-operations_for taken (Feed piece) answer = map absorb (new_blocks taken (brought (Feed piece) answer))
+operations_for taken (Feed piece) answer = map absorb (new_blocks taken (call_bytes (Feed piece) answer))
 operations_for taken Switch answer = switch (is_ok answer) ∷ []
 
 abbrev pub operations_of : List ℕ → List Call → List Answer → List Operation
 operations_of taken [] answers = []
 operations_of taken (c ∷ cs) [] = []
-operations_of taken (c ∷ cs) (a ∷ more) = operations_for taken c a ++ operations_of (taken ++ brought c a) cs more
+operations_of taken (c ∷ cs) (a ∷ more) = operations_for taken c a ++ operations_of (taken ++ call_bytes c a) cs more
 
 -- A whole job: from zero, the header's calls and its end, the body's calls and its end, and the length block.
 abbrev pub run_operations : List Call → List Answer → List Call → List Answer → List Operation
 run_operations hs xs bs ys =
-    let header : List ℕ = accepted hs xs in
-    let body : List ℕ = accepted bs ys in
+    let header : List ℕ = accepted_bytes hs xs in
+    let body : List ℕ = accepted_bytes bs ys in
     resume block_ring.zero
     ∷ (operations_of [] hs xs
     ++ (map absorb (final_block header)
@@ -48,9 +48,9 @@ run_operations hs xs bs ys =
     ++ map absorb (final_block body ++ (block_of_counts (length header) (length body) ∷ [])))))
 
 -- what each operation gives, joined
-abbrev pub gathered : {X : Type 0} → (Operation → List X) → List Operation → List X
-gathered f [] = []
-gathered f (o ∷ os) = f o ++ gathered f os
+abbrev pub flat_map : {X : Type 0} → (Operation → List X) → List Operation → List X
+flat_map f [] = []
+flat_map f (o ∷ os) = f o ++ flat_map f os
 
 abbrev pub absorb_of : Operation → List Block
 absorb_of (resume v) = []
@@ -76,29 +76,29 @@ switch_answers (Switch ∷ cs) (a ∷ more) = is_ok a ∷ switch_answers cs more
 
 -- One resume, at zero; one absorb for each block of the block list, in order; one switch for each switch, with its answer.
 pub record InOrder (hs : List Call) (xs : List Answer) (bs : List Call) (ys : List Answer) : Type 0 where
-  pub resumes : gathered resume_of (run_operations hs xs bs ys) ≡ block_ring.zero ∷ []
-  pub absorbs : gathered absorb_of (run_operations hs xs bs ys) ≡ block_list (accepted hs xs) (accepted bs ys)
-  pub switches : gathered switch_of (run_operations hs xs bs ys) ≡ switch_answers hs xs ++ switch_answers bs ys
+  pub resumes : flat_map resume_of (run_operations hs xs bs ys) ≡ block_ring.zero ∷ []
+  pub absorbs : flat_map absorb_of (run_operations hs xs bs ys) ≡ block_list (accepted_bytes hs xs) (accepted_bytes bs ys)
+  pub switches : flat_map switch_of (run_operations hs xs bs ys) ≡ switch_answers hs xs ++ switch_answers bs ys
 
 -- From one state to another by a list of calls with their answers.
-pub record Answered {E : Type 0} (m : Ghosts E) (h : Block) (given : Bool) (before : List Block) (f : Filling E) (taken : List ℕ)
-    (calls : List Call) (answers : List Answer) (t : Filling E) : Type 0 where
+pub record AnswersFrom {E : Type 0} (m : Ghosts E) (h : Block) (given : Bool) (before : List Block) (f : BlockBuffer E) (taken : List ℕ)
+    (calls : List Call) (answers : List Answer) (t : BlockBuffer E) : Type 0 where
   pub said : answers ≡ answers_to f.part given taken calls
-  pub holds : Holds m h given before t (taken ++ accepted calls answers)
+  pub holds : Holds m h given before t (taken ++ accepted_bytes calls answers)
   pub chain : Chain m (operations_of taken calls answers) f.engine t.engine
 
--- a lent row after the answers: those that it has room for, and behind them what it held
+-- a lent row after the answers: those that it has room for, and behind them what it pending
 abbrev pub row_after : List Answer → List Answer → List Answer
 row_after row answers = take (length row) answers ++ drop (length answers) row
 
 module _ {E : Type 0} (m : Ghosts E) where
   -- From one state to another by a list of calls with their answers, whatever was taken before. Only private functions cite it.
-  abbrev pub AnswersCalls : Filling E → List Call → List Answer → Filling E → Type 0
+  abbrev pub AnswersCalls : BlockBuffer E → List Call → List Answer → BlockBuffer E → Type 0
   AnswersCalls f calls answers t =
-      (h : Block) (given : Bool) (before : List Block) (taken : List ℕ) → Holds m h given before f taken → Answered m h given before f taken calls answers t
+      (h : Block) (given : Bool) (before : List Block) (taken : List ℕ) → Holds m h given before f taken → AnswersFrom m h given before f taken calls answers t
 
   -- Each of a list of calls was made, and its answer went to a row. Only private functions cite it.
-  pub record AnswersIntoRow (f : Filling E) (calls : List Call) (row : List Answer) (t : Filling E) (after : List Answer) : Type 0 where
+  pub record AnswersIntoRow (f : BlockBuffer E) (calls : List Call) (row : List Answer) (t : BlockBuffer E) (after : List Answer) : Type 0 where
     pub answers : List Answer
     pub count : length answers ≡ length calls
     pub written : after ≡ row_after row answers

@@ -2,7 +2,7 @@
 ghost use Rattle.job.specs.Jobs.{BodyFollowsFeed, BodyFollowsSwitch, ClosesBody, ClosesByStandard, FeedsBody, FollowsClose, SwitchesBody};
 
 use crate::call::Answer;
-use crate::state::{BodyJob, Closed, Filling};
+use crate::state::{BodyJob, Closed, BlockBuffer};
 use engine::Engine;
 use field::{Block, Element};
 use message::block_of_byte_counts;
@@ -13,7 +13,7 @@ impl<E: Engine> BodyJob<E> {
         ensures holds { BodyFollowsFeed E.Engine self.old piece.now result self.new }
         ensures whole { FeedsBody E.Engine self.old piece.now result self.new }
     {
-        self.filling.put(piece)
+        self.buffer.put(piece)
     }
 
     /// Asks the engine to switch, which it refuses where it is not ready. A half-filled block stays as it is.
@@ -21,7 +21,7 @@ impl<E: Engine> BodyJob<E> {
         ensures holds { BodyFollowsSwitch E.Engine self.old result self.new }
         ensures whole { SwitchesBody E.Engine self.old result self.new }
     {
-        self.filling.switch()
+        self.buffer.switch()
     }
 
     /// Ends the job: the body's last block is filled with zeros, the length block ends the hash, and the pad makes it the tag.
@@ -31,15 +31,15 @@ impl<E: Engine> BodyJob<E> {
         ensures whole { ClosesBody E.Engine self pad result }
     {
         let BodyJob {
-            mut filling,
+            mut buffer,
             header,
         } = self;
-        filling.flush();
-        let Filling {
+        buffer.flush();
+        let BlockBuffer {
             mut engine,
             count,
             ..
-        } = filling;
+        } = buffer;
         engine.absorb(block_of_byte_counts(header, count));
         let hash = engine.value();
         let tag = hash.plus(pad);

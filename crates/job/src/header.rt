@@ -1,9 +1,9 @@
 // The header state of a job.
 ghost use Rattle.std.specs.Prelude.{[]};
-ghost use Rattle.job.specs.Jobs.{FeedsHeader, FollowsTurn, HeaderFollowsFeed, HeaderFollowsSwitch, HeaderHolds, Starts, SwitchesHeader, Turned};
+ghost use Rattle.job.specs.Jobs.{FeedsHeader, FollowsTurn, HeaderFollowsFeed, HeaderFollowsSwitch, HeaderHolds, Starts, SwitchesHeader, Turns};
 
 use crate::call::Answer;
-use crate::state::{BodyJob, Filling, HeaderJob};
+use crate::state::{BodyJob, BlockBuffer, HeaderJob};
 use arrayvec::ArrayVec;
 use engine::Engine;
 use field::{Block, Element};
@@ -17,10 +17,10 @@ impl<E: Engine> HeaderJob<E> {
     {
         engine.resume(Block::zero());
         HeaderJob {
-            filling: Filling {
+            buffer: BlockBuffer {
                 engine,
                 part: Part::Header,
-                held: ArrayVec::new(),
+                pending: ArrayVec::new(),
                 count: 0,
             },
         }
@@ -31,7 +31,7 @@ impl<E: Engine> HeaderJob<E> {
         ensures holds { HeaderFollowsFeed E.Engine self.old piece.now result self.new }
         ensures whole { FeedsHeader E.Engine self.old piece.now result self.new }
     {
-        self.filling.put(piece)
+        self.buffer.put(piece)
     }
 
     /// Asks the engine to switch, which it refuses where it is not ready. A half-filled block stays as it is.
@@ -39,19 +39,19 @@ impl<E: Engine> HeaderJob<E> {
         ensures holds { HeaderFollowsSwitch E.Engine self.old result self.new }
         ensures whole { SwitchesHeader E.Engine self.old result self.new }
     {
-        self.filling.switch()
+        self.buffer.switch()
     }
 
     /// Ends the header: its last block is filled with zeros, so that the body starts at the edge of a block.
     pub fn turn(self) -> BodyJob<E>
         ensures holds { FollowsTurn E.Engine self result }
-        ensures whole { Turned E.Engine self result }
+        ensures whole { Turns E.Engine self result }
     {
-        let HeaderJob { mut filling } = self;
-        filling.flush();
-        let header = filling.count;
-        filling.count = 0;
-        filling.part = Part::Body;
-        BodyJob { filling, header }
+        let HeaderJob { mut buffer } = self;
+        buffer.flush();
+        let header = buffer.count;
+        buffer.count = 0;
+        buffer.part = Part::Body;
+        BodyJob { buffer, header }
     }
 }

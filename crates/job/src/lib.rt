@@ -4,7 +4,7 @@
 mod body;
 mod call;
 mod difference;
-mod filling;
+mod buffer;
 mod header;
 mod run;
 mod state;

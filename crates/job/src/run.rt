@@ -5,7 +5,7 @@ ghost use Rattle.job.specs.Runs.{AnswersCalls, AnswersIntoRow, Replays, row_afte
 ghost use Rattle.message.specs.declared.part.Part.TheVariants.{Header, Body};
 
 use crate::call::{Answer, Call, Calls};
-use crate::state::{Closed, Filling, HeaderJob};
+use crate::state::{Closed, BlockBuffer, HeaderJob};
 use engine::Engine;
 use field::Block;
 
@@ -18,7 +18,7 @@ fn write(row: &mut [Answer], place: usize, answer: Answer)
     }
 }
 
-impl<E: Engine> Filling<E> {
+impl<E: Engine> BlockBuffer<E> {
     // One call, whichever state the job is in. That the part stays is what makes the state the same one after it.
     fn answer(&mut self, call: &Call) -> Answer
         ensures part { self.new.part ≡ self.old.part }
@@ -59,8 +59,8 @@ pub fn replay<E: Engine>(
     ensures run { Replays E.Engine engine calls.entry pad result }
 {
     let mut job = HeaderJob::start(engine);
-    job.filling.answer_all(calls.header, header_answers);
+    job.buffer.answer_all(calls.header, header_answers);
     let mut job = job.turn();
-    job.filling.answer_all(calls.body, body_answers);
+    job.buffer.answer_all(calls.body, body_answers);
     job.close(pad)
 }

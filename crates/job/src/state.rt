@@ -8,31 +8,31 @@ use arrayvec::ArrayVec;
 use field::Block;
 use message::Part;
 
-// An engine that is fed the bytes of a part: those that fill no block yet wait in `held`.
+// An engine that is fed the bytes of a part: those that fill no block yet wait in `pending`.
 #[derive(Drop)]
-pub struct Filling<E> {
+pub struct BlockBuffer<E> {
     pub(crate) engine: E,
     pub(crate) part: Part,
-    pub(crate) held: ArrayVec<u8, 16>,
+    pub(crate) pending: ArrayVec<u8, 16>,
     // The bytes of the part that were taken so far.
     pub(crate) count: u64,
-    ghost room: { array_vec_len held < 16 },
+    ghost room: { array_vec_len pending < 16 },
     ghost few: { count ≤ limit_of part },
 }
 
 /// A job in its header state, which a turn ends.
 #[derive(Drop)]
 pub struct HeaderJob<E> {
-    pub(crate) filling: Filling<E>,
-    ghost taking: { filling.part ≡ Header },
+    pub(crate) buffer: BlockBuffer<E>,
+    ghost taking: { buffer.part ≡ Header },
 }
 
 /// A job in its body state, which the close ends. The header's length in bytes is kept for the length block.
 #[derive(Drop)]
 pub struct BodyJob<E> {
-    pub(crate) filling: Filling<E>,
+    pub(crate) buffer: BlockBuffer<E>,
     pub(crate) header: u64,
-    ghost taking: { filling.part ≡ Body },
+    ghost taking: { buffer.part ≡ Body },
     ghost short: { header ≤ header_limit },
 }
 

@@ -2,13 +2,13 @@
 use Rattle.std.specs.Prelude.{◌≡◌, ℕ, ◌+◌, ◌-◌, ◌*◌, ◌^◌, cond, ◌⊎◌, List, ◌++◌, length, drop, ℤ, pos, negsuc, Ok, Err, Result, bit_or, nat_lt, fold}
 use Rattle.field.specs.Bytes.{bytes_of}
 use Rattle.field.specs.Kinds.{block, block_ring}
-use Rattle.field.specs.declared.kinds.Block.{Block}
+use Rattle.field.specs.declared.block.Block.{Block}
 use Rattle.message.specs.Hash.{hash_of, tag_of}
 use Rattle.message.specs.Limits.{within_limits}
 use Rattle.polynomial.specs.Bits.{ones_below}
 use Rattle.polynomial.specs.Blocks.{coefficients_of}
 use Rattle.polynomial.specs.Polynomials.{Annihilates}
-use Rattle.refusal.specs.Refusals.{number_of}
+use Rattle.refusal.specs.Refusals.{refusal_number}
 use Rattle.refusal.specs.declared.Refusal.{Refusal}
 use Rattle.refusal.specs.declared.Refusal.TheVariants.{DoesNotAnnihilate, OutputTooShort}
 
@@ -18,7 +18,7 @@ halves high low = block (high * 2 ^ 64 + low)
 
 -- the number of a refusal, made negative
 abbrev pub refusal_status : Refusal → ℤ
-refusal_status refusal = negsuc (number_of refusal - 1)
+refusal_status refusal = negsuc (refusal_number refusal - 1)
 
 abbrev pub status_of : Result (Unit {0}) Refusal → ℤ
 status_of (Ok x) = pos 0
@@ -30,29 +30,29 @@ number_status (Ok number) = pos number
 number_status (Err refusal) = refusal_status refusal
 
 -- the room for the answer is looked at last
-abbrev pub seal_answer : List ℕ → List ℕ → List ℕ → Result (Unit {0}) Refusal
-seal_answer header body output = within_limits header body (cond (nat_lt (length output) 32) (Err OutputTooShort) (Ok tt))
+abbrev pub tag_call_answer : List ℕ → List ℕ → List ℕ → Result (Unit {0}) Refusal
+tag_call_answer header body output = within_limits header body (cond (nat_lt (length output) 32) (Err OutputTooShort) (Ok tt))
 
 -- what an accepted call writes, and a refused one does not
-abbrev pub written_if : Result (Unit {0}) Refusal → List ℕ → List ℕ → List ℕ
-written_if (Ok x) bytes output = bytes ++ drop (length bytes) output
-written_if (Err refusal) bytes output = output
+abbrev pub output_if : Result (Unit {0}) Refusal → List ℕ → List ℕ → List ℕ
+output_if (Ok x) bytes output = bytes ++ drop (length bytes) output
+output_if (Err refusal) bytes output = output
 
 -- the output afterwards: the 16 bytes of the hash, those of the tag, and what stood after them
-abbrev pub sealed_over : Block → Block → List ℕ → List ℕ → List ℕ → List ℕ
-sealed_over subkey pad header body output =
-    written_if (seal_answer header body output) (bytes_of (hash_of subkey header body) ++ bytes_of (tag_of subkey pad header body)) output
+abbrev pub output_after : Block → Block → List ℕ → List ℕ → List ℕ → List ℕ
+output_after subkey pad header body output =
+    output_if (tag_call_answer header body output) (bytes_of (hash_of subkey header body) ++ bytes_of (tag_of subkey pad header body)) output
 
 -- The number of ones where the polynomial annihilates the subkey; a refusal exactly where it does not.
-abbrev pub Tried : Block → Block → ℤ → Type 0
-Tried subkey proposal status =
+abbrev pub TriesPolynomial : Block → Block → ℤ → Type 0
+TriesPolynomial subkey proposal status =
     (Annihilates block_ring 128 (coefficients_of proposal) subkey × (status ≡ pos (ones_below 128 (coefficients_of proposal))))
     ⊎ ((Annihilates block_ring 128 (coefficients_of proposal) subkey → ⊥) × (status ≡ refusal_status DoesNotAnnihilate))
 
 -- the same, before it is a status
-abbrev pub Weighed : Block → Block → Result ℕ Refusal → Type 0
-Weighed subkey proposal (Ok weight) = Annihilates block_ring 128 (coefficients_of proposal) subkey × (weight ≡ ones_below 128 (coefficients_of proposal))
-Weighed subkey proposal (Err refusal) = (Annihilates block_ring 128 (coefficients_of proposal) subkey → ⊥) × (refusal ≡ DoesNotAnnihilate)
+abbrev pub Weighs : Block → Block → Result ℕ Refusal → Type 0
+Weighs subkey proposal (Ok weight) = Annihilates block_ring 128 (coefficients_of proposal) subkey × (weight ≡ ones_below 128 (coefficients_of proposal))
+Weighs subkey proposal (Err refusal) = (Annihilates block_ring 128 (coefficients_of proposal) subkey → ⊥) × (refusal ≡ DoesNotAnnihilate)
 
 -- bits, and every bit that stands in some block
 abbrev pub bits_from : ℕ → List Block → ℕ

@@ -2,7 +2,7 @@
 // answer as one number.
 ghost use Rattle.std.specs.Prelude.{◌≡◌};
 ghost use Rattle.tag.specs.Tags.{check_answer};
-ghost use Rattle.logger.specs.Calls.{Tried, halves, seal_answer, sealed_over, status_of};
+ghost use Rattle.logger.specs.Calls.{TriesPolynomial, halves, tag_call_answer, output_after, status_of};
 
 use crate::scratch::{bits_in, try_in};
 use crate::seal::seal;
@@ -22,8 +22,8 @@ pub fn sonde_tag(
     body: &[u8],
     output: &mut [u8],
 ) -> i32
-    ensures value { result ≡ status_of (seal_answer header.now body.now output.old) }
-    ensures output { output.new ≡ sealed_over (halves subkey_high subkey_low) (halves pad_high pad_low) header.now body.now output.old }
+    ensures value { result ≡ status_of (tag_call_answer header.now body.now output.old) }
+    ensures output { output.new ≡ output_after (halves subkey_high subkey_low) (halves pad_high pad_low) header.now body.now output.old }
 {
     let subkey = Block::from_halves(subkey_high, subkey_low);
     let pad = Block::from_halves(pad_high, pad_low);
@@ -55,7 +55,7 @@ pub fn sonde_try_polynomial(
     proposal_high: u64,
     proposal_low: u64,
 ) -> i32
-    ensures { Tried (halves subkey_high subkey_low) (halves proposal_high proposal_low) result }
+    ensures { TriesPolynomial (halves subkey_high subkey_low) (halves proposal_high proposal_low) result }
 {
     let subkey = Block::from_halves(subkey_high, subkey_low);
     let proposal = Block::from_halves(proposal_high, proposal_low);

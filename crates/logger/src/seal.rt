@@ -1,6 +1,6 @@
 // Hash and tag of a message, written to an output.
 ghost use Rattle.std.specs.Prelude.{◌≡◌};
-ghost use Rattle.logger.specs.Calls.{seal_answer, sealed_over};
+ghost use Rattle.logger.specs.Calls.{tag_call_answer, output_after};
 
 use engine::Step;
 use field::Block;
@@ -15,8 +15,8 @@ pub(crate) fn seal(
     message: Message,
     output: &mut [u8],
 ) -> Result<(), Refusal>
-    ensures answer { result ≡ seal_answer message.entry.header.now message.entry.body.now output.old }
-    ensures output { output.new ≡ sealed_over subkey pad message.entry.header.now message.entry.body.now output.old }
+    ensures answer { result ≡ tag_call_answer message.entry.header.now message.entry.body.now output.old }
+    ensures output { output.new ≡ output_after subkey pad message.entry.header.now message.entry.body.now output.old }
 {
     message.check_lengths()?;
     if output.len() < 32 {

@@ -4,7 +4,7 @@
 
 ghost use Rattle.std.specs.Prelude.{◌≡◌};
 ghost use Rattle.tag.specs.Tags.{check_answer};
-ghost use Rattle.logger.specs.Calls.{Tried, halves, seal_answer, sealed_over, status_of};
+ghost use Rattle.logger.specs.Calls.{TriesPolynomial, halves, tag_call_answer, output_after, status_of};
 
 // Writes hash and tag to the first 32 bytes of the output. Two numbers for a block, one for the answer: C has no more.
 // It only hands on, like the two below: C names stand here alone.
@@ -18,8 +18,8 @@ pub extern "C" fn sonde_tag(
     body: &[u8],
     output: &mut [u8],
 ) -> i32
-    ensures value { result ≡ status_of (seal_answer header.now body.now output.old) }
-    ensures output { output.new ≡ sealed_over (halves subkey_high subkey_low) (halves pad_high pad_low) header.now body.now output.old }
+    ensures value { result ≡ status_of (tag_call_answer header.now body.now output.old) }
+    ensures output { output.new ≡ output_after (halves subkey_high subkey_low) (halves pad_high pad_low) header.now body.now output.old }
 {
     logger::sonde_tag(
         subkey_high,
@@ -64,7 +64,7 @@ pub extern "C" fn sonde_try_polynomial(
     proposal_high: u64,
     proposal_low: u64,
 ) -> i32
-    ensures { Tried (halves subkey_high subkey_low) (halves proposal_high proposal_low) result }
+    ensures { TriesPolynomial (halves subkey_high subkey_low) (halves proposal_high proposal_low) result }
 {
     logger::sonde_try_polynomial(subkey_high, subkey_low, proposal_high, proposal_low)
 }

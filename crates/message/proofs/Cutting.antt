@@ -3,7 +3,7 @@ use Rattle.std.proofs.Common.{◌≡◌, ℕ, zero, suc, ◌+◌, ◌<◌, ◌�
 use native.Mathlib.Decide.{dec_le}
 use Rattle.std.proofs.lemmas.List.{take_at, drop_at, take_all, drop_all, nil_from_length}
 use Rattle.field.specs.Bytes.{block_of}
-use Rattle.message.specs.Blocks.{blocks_taken, filled, cut, blocks, block_of_lengths, block_list}
+use Rattle.message.specs.Blocks.{blocks_taken, filled_piece, cut, blocks, block_of_lengths, block_list}
 
 pub length_cut : (n : ℕ) (bytes : List ℕ) → length (cut n bytes) ≡ n
 length_cut zero bytes = refl
@@ -60,11 +60,11 @@ module _ (piece more : List ℕ) (size : length piece ≡ min 16 (length (piece 
   next : Next 16 piece more
   next = next_of 16 piece more size
 
-  pub blocks_more : blocks (piece ++ more) ≡ block_of (filled piece) ∷ blocks more
+  pub blocks_more : blocks (piece ++ more) ≡ block_of (filled_piece piece) ∷ blocks more
   unfolding blocks
   blocks_more =
       let whole = length-append piece more in
       let count : blocks_taken (length (piece ++ more)) ≡ suc (blocks_taken (length more)) =
       elim next [ inl full ↦ omega arith | inr short ↦ omega arith ] in
       ap (λ (n : ℕ). cut n (piece ++ more)) count
-      ∙ ap₂ (λ (p ys : List ℕ). block_of (filled p) ∷ cut (blocks_taken (length more)) ys) (take_next 16 piece more next) (drop_next 16 piece more next)
+      ∙ ap₂ (λ (p ys : List ℕ). block_of (filled_piece p) ∷ cut (blocks_taken (length more)) ys) (take_next 16 piece more next) (drop_next 16 piece more next)

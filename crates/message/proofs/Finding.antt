@@ -5,9 +5,9 @@ use Rattle.std.specs.List.{range_with_len}
 use Rattle.std.proofs.lemmas.List.{drop-drop, nil_from_length}
 use Rattle.std.proofs.lemmas.Bool.{cond-true, cond-false, le-ltb}
 use Rattle.field.specs.Bytes.{block_of}
-use Rattle.field.specs.declared.kinds.Block.{Block}
-use Rattle.message.specs.Blocks.{blocks_taken, filled, cut, blocks}
-use Rattle.message.specs.Finding.{place_of, bytes_at, pieces, joined, Covered}
+use Rattle.field.specs.declared.block.Block.{Block}
+use Rattle.message.specs.Blocks.{blocks_taken, filled_piece, cut, blocks}
+use Rattle.message.specs.Finding.{block_place, bytes_at, block_pieces, concat, CoversMessage}
 use Rattle.message.specs.declared.part.Part.TheVariants.{Header, Body}
 
 -- n pieces of one part, 16 bytes at a time
@@ -16,21 +16,21 @@ cut_bytes zero bytes = []
 cut_bytes (suc n) bytes = take 16 bytes ∷ cut_bytes n (drop 16 bytes)
 
 abbrev fill : List ℕ → Block
-fill piece = block_of (filled piece)
+fill piece = block_of (filled_piece piece)
 
 cut_filled : (n : ℕ) (bytes : List ℕ) → map fill (cut_bytes n bytes) ≡ cut n bytes
 cut_filled zero bytes = refl
 cut_filled (suc n) bytes = ap (λ ps. fill (take 16 bytes) ∷ ps) (cut_filled n (drop 16 bytes))
 
-cut_joined : (n : ℕ) (bytes : List ℕ) → length bytes ≤ 16 * n → joined (cut_bytes n bytes) ≡ bytes
+cut_joined : (n : ℕ) (bytes : List ℕ) → length bytes ≤ 16 * n → concat (cut_bytes n bytes) ≡ bytes
 cut_joined zero bytes none = sym (nil_from_length bytes (omega arith))
 cut_joined (suc n) bytes within =
     let rest : length (drop 16 bytes) ≤ 16 * n = simp length-drop (omega arith) in
     ap (λ xs. take 16 bytes ++ xs) (cut_joined n (drop 16 bytes) rest) ∙ take-append-drop 16 bytes
 
-joined_append : (xs ys : List (List ℕ)) → joined (xs ++ ys) ≡ joined xs ++ joined ys
+joined_append : (xs ys : List (List ℕ)) → concat (xs ++ ys) ≡ concat xs ++ concat ys
 joined_append [] ys = refl
-joined_append (x ∷ xs) ys = ap (λ zs. x ++ zs) (joined_append xs ys) ∙ sym (append_assoc x (joined xs) (joined ys))
+joined_append (x ∷ xs) ys = ap (λ zs. x ++ zs) (joined_append xs ys) ∙ sym (append_assoc x (concat xs) (concat ys))
 
 counting_append : (a m n : ℕ) → range_with_len a (m + n) ≡ range_with_len a m ++ range_with_len (a + m) n
 counting_append a zero n =
@@ -65,14 +65,14 @@ module _ (header body : List ℕ) where
   abbrev in_body : ℕ
   in_body = blocks_taken (length body)
 
-  pub place_in_header : (n : ℕ) → n < in_header → place_of header body n ≡ Some (Header, 16 * n)
+  pub place_in_header : (n : ℕ) → n < in_header → block_place header body n ≡ Some (Header, 16 * n)
   place_in_header n below = cond-true _ _ _ (lt-ltb n in_header below)
 
-  pub place_in_body : (n : ℕ) → in_header ≤ n → n < in_header + in_body → place_of header body n ≡ Some (Body, 16 * (n - in_header))
+  pub place_in_body : (n : ℕ) → in_header ≤ n → n < in_header + in_body → block_place header body n ≡ Some (Body, 16 * (n - in_header))
   place_in_body n past below = cond-false _ _ _ (le-ltb n in_header past) ∙ cond-true _ _ _ (lt-ltb n (in_header + in_body) below)
 
   abbrev found : ℕ → List ℕ
-  found n = bytes_at header body (place_of header body n)
+  found n = bytes_at header body (block_place header body n)
 
   header_pieces : map found (range_with_len 0 in_header) ≡ cut_bytes in_header header
   header_pieces = part_pieces found header in_header 0 0 (λ j below.
@@ -85,18 +85,18 @@ module _ (header body : List ℕ) where
       let e : 16 * (n - in_header) ≡ 16 * (0 + j) = omega arith in
       ap (bytes_at header body) (place_in_body n (omega arith) (omega arith)) ∙ ap (λ i. take 16 (drop i body)) e)
 
-  all_pieces : pieces header body ≡ cut_bytes in_header header ++ cut_bytes in_body body
+  all_pieces : block_pieces header body ≡ cut_bytes in_header header ++ cut_bytes in_body body
   all_pieces =
       ap (map found) (counting_append 0 in_header in_body) ∙ map-append found (range_with_len 0 in_header) (range_with_len (0 + in_header) in_body)
       ∙ ap₂ (λ xs ys. xs ++ ys) header_pieces body_pieces
 
-  pub covered : Covered header body
+  pub covered : CoversMessage header body
   unfolding blocks
   covered = record {
-    filled =
+    filled_piece =
         ap (map fill) all_pieces ∙ map-append fill (cut_bytes in_header header) (cut_bytes in_body body)
         ∙ ap₂ (λ xs ys. xs ++ ys) (cut_filled in_header header) (cut_filled in_body body);
     bytes =
-        ap joined all_pieces ∙ joined_append (cut_bytes in_header header) (cut_bytes in_body body)
+        ap concat all_pieces ∙ joined_append (cut_bytes in_header header) (cut_bytes in_body body)
         ∙ ap₂ (λ xs ys. xs ++ ys) (cut_joined in_header header (omega arith)) (cut_joined in_body body (omega arith));
   }

@@ -2,8 +2,8 @@
 use Rattle.std.proofs.Common.{◌≡◌, ℕ, zero, suc, ◌+◌, ◌-◌, ◌*◌, ◌/◌, ◌<◌, ◌≤◌, List, [], ◌∷◌, ◌++◌, length, map, take, drop, replicate, ap, ◌∙◌, ap₂, append-nil, zero-add, suc-add, arith, length-drop, length-take-le, drop-drop}
 use Rattle.std.specs.Simd.{first_chunks}
 use Rattle.field.specs.Bytes.{block_of}
-use Rattle.field.specs.declared.kinds.Block.{Block}
-use Rattle.message.specs.Blocks.{blocks_taken, filled, cut, blocks}
+use Rattle.field.specs.declared.block.Block.{Block}
+use Rattle.message.specs.Blocks.{blocks_taken, filled_piece, cut, blocks}
 
 -- n whole blocks, and k blocks of what follows
 cut_whole : (n k : ℕ) (xs : List ℕ) → 16 * n ≤ length xs → cut (n + k) xs ≡ map block_of (first_chunks 16 n xs) ++ cut k (drop (n * 16) xs)
@@ -12,7 +12,7 @@ cut_whole (suc n) k xs within =
     let full : length (take 16 xs) ≡ 16 = length-take-le 16 xs (omega arith) in
     let left : length (drop 16 xs) ≡ length xs - 16 = length-drop 16 xs in
     let further : 16 + n * 16 ≡ suc n * 16 = omega arith in
-    let first : filled (take 16 xs) ≡ take 16 xs =
+    let first : filled_piece (take 16 xs) ≡ take 16 xs =
     ap (λ (j : ℕ). take 16 xs ++ replicate (16 - j) 0) full ∙ append-nil (take 16 xs) in
     ap (λ (m : ℕ). cut m xs) (suc-add n k)
     ∙ ap₂ (λ (b : Block) (bs : List Block). b ∷ bs) (ap block_of first)
@@ -29,6 +29,6 @@ blocks_whole part =
     ap (λ (m : ℕ). cut m part) count ∙ cut_whole n (blocks_taken (length (drop (n * 16) part))) part (omega arith)
 
 -- fewer than 16 bytes are one block
-pub blocks_short : (rest : List ℕ) → 0 < length rest → length rest < 16 → blocks rest ≡ block_of (filled (take 16 rest)) ∷ []
+pub blocks_short : (rest : List ℕ) → 0 < length rest → length rest < 16 → blocks rest ≡ block_of (filled_piece (take 16 rest)) ∷ []
 unfolding blocks
 blocks_short rest some short = let one : blocks_taken (length rest) ≡ 1 = omega arith in ap (λ (m : ℕ). cut m rest) one

@@ -6,15 +6,15 @@ use lib.ListN.{length-replicate}
 use Rattle.std.proofs.lemmas.List.{take_at, drop_at, take_all, length-take-le}
 use Rattle.field.specs.Bytes.{block_of}
 use Rattle.field.specs.Digits.{numeral, digits}
-use Rattle.field.specs.Evaluation.{eval, absorbed}
+use Rattle.field.specs.Evaluation.{eval, horner}
 use Rattle.field.specs.Kinds.{block_ring}
-use Rattle.field.specs.declared.kinds.Block.{Block}
+use Rattle.field.specs.declared.block.Block.{Block}
 use Rattle.field.proofs.Digits.{length_digits, digits_mod}
-use Rattle.field.proofs.Horner.{absorbed_eval}
+use Rattle.field.proofs.Horner.{horner_eval}
 use Rattle.field.specs.Instances.{block_ring_laws, block_sum_bits, block_product_bits}
-use Rattle.message.specs.Blocks.{AreBytes, blocks_taken, filled, cut, blocks, block_of_lengths, block_of_counts, block_list}
+use Rattle.message.specs.Blocks.{AreBytes, blocks_taken, filled_piece, cut, blocks, block_of_lengths, block_of_counts, block_list}
 use Rattle.message.specs.Hash.{hash_of, tag_of}
-use Rattle.message.specs.Standard.{bits, string, zeros, xor, product, ghash_from, ghash, padded, message, block_string, MeetsStandard}
+use Rattle.message.specs.Standard.{bits, string, zeros, xor, product, ghash_from, ghash, padded_string_string, message, block_string, MeetsStandard}
 use Rattle.message.proofs.Strings.{xor_bits, string_append, length_string, string_zeros, string_digits, string_number}
 use Rattle.message.proofs.StandardProduct.{product_bits, zeros_bits}
 
@@ -42,7 +42,7 @@ one_step h y p =
     ∙ product_bits (block_ring.sum y p).bits h.bits h.fits
     ∙ ap (bits 128) (sym (block_product_bits (block_ring.sum y p) h))
 
-steps : (h y : Block) (ps : List Block) → ghash_from (block_string h) (block_string y) (length ps) (joined ps) ≡ block_string (absorbed block_ring h y ps)
+steps : (h y : Block) (ps : List Block) → ghash_from (block_string h) (block_string y) (length ps) (joined ps) ≡ block_string (horner block_ring h y ps)
 steps h y [] = refl
 steps h y (p ∷ ps) =
     let wide : length (block_string p) ≡ 128 = length_digits 2 128 p.bits in
@@ -57,7 +57,7 @@ ghash_blocks h ps =
     let count : length (joined ps) / 128 ≡ length ps = ap (λ (n : ℕ). n / 128) (length_joined ps) ∙ mul-div_cancel (length ps) (omega arith) in
     ap₂ (λ (y : List ℕ) (n : ℕ). ghash_from (block_string h) y n (joined ps)) zeros_bits count
     ∙ steps h block_ring.zero ps
-    ∙ ap block_string (absorbed_eval block_ring block_ring_laws h [] ps)
+    ∙ ap block_string (horner_eval block_ring block_ring_laws h [] ps)
 
 -- ---- the string that is hashed
 
@@ -94,15 +94,15 @@ small_digits (suc n) v zero = omega arith
 small_digits (suc n) v (suc k) = small_digits n v k
 
 -- a shorter piece, filled up to 16 bytes
-filled_same : (xs : List ℕ) → AreBytes xs → length xs ≤ 16 → block_string (block_of (filled xs)) ≡ string (filled xs)
+filled_same : (xs : List ℕ) → AreBytes xs → length xs ≤ 16 → block_string (block_of (filled_piece xs)) ≡ string (filled_piece xs)
 filled_same xs small short =
-    let whole : length (filled xs) ≡ 16 = length-append xs (replicate (16 - length xs) 0) ∙ ap (λ (n : ℕ). length xs + n) (length-replicate (16 - length xs) 0) ∙ omega arith in
-    block_string_same (filled xs) (small_append xs (replicate (16 - length xs) 0) small (small_zeros (16 - length xs))) whole
+    let whole : length (filled_piece xs) ≡ 16 = length-append xs (replicate (16 - length xs) 0) ∙ ap (λ (n : ℕ). length xs + n) (length-replicate (16 - length xs) 0) ∙ omega arith in
+    block_string_same (filled_piece xs) (small_append xs (replicate (16 - length xs) 0) small (small_zeros (16 - length xs))) whole
 
-pub first_same : (xs : List ℕ) → AreBytes xs → block_string (block_of (filled (take 16 xs))) ≡ string (filled (take 16 xs))
+pub first_same : (xs : List ℕ) → AreBytes xs → block_string (block_of (filled_piece (take 16 xs))) ≡ string (filled_piece (take 16 xs))
 first_same xs small = filled_same (take 16 xs) (small_take 16 xs small) (rw length-take (omega arith))
 
-filled_string : (xs : List ℕ) → AreBytes xs → length xs ≤ 16 → block_string (block_of (filled xs)) ≡ string xs ++ zeros (8 * (16 - length xs))
+filled_string : (xs : List ℕ) → AreBytes xs → length xs ≤ 16 → block_string (block_of (filled_piece xs)) ≡ string xs ++ zeros (8 * (16 - length xs))
 filled_string xs small short =
     filled_same xs small short
     ∙ string_append xs (replicate (16 - length xs) 0)
@@ -120,7 +120,7 @@ cut_string (suc n) xs small low high =
           let full : length (take 16 xs) ≡ 16 = length-take-le 16 xs h in
           let rest : length (drop 16 xs) ≡ length xs - 16 = length-drop 16 xs in
           let left : 16 * n - length (drop 16 xs) ≡ 16 * suc n - length xs = omega arith in
-          let first : block_string (block_of (filled (take 16 xs))) ≡ string (take 16 xs) =
+          let first : block_string (block_of (filled_piece (take 16 xs))) ≡ string (take 16 xs) =
           filled_string (take 16 xs) (small_take 16 xs small) (omega arith)
           ∙ ap (λ (k : ℕ). string (take 16 xs) ++ zeros (8 * (16 - k))) full
           ∙ append-nil (string (take 16 xs)) in
@@ -134,13 +134,13 @@ cut_string (suc n) xs small low high =
           let last : n ≡ 0 = omega arith in
           let left : 16 - length xs ≡ 16 * suc n - length xs = omega arith in
           let short : length xs ≤ 16 = omega arith in
-          ap₂ (λ (k : ℕ) (p : List ℕ). block_string (block_of (filled p)) ++ joined (cut k (drop 16 xs))) last (take_all 16 xs short)
-          ∙ append-nil (block_string (block_of (filled xs)))
+          ap₂ (λ (k : ℕ) (p : List ℕ). block_string (block_of (filled_piece p)) ++ joined (cut k (drop 16 xs))) last (take_all 16 xs short)
+          ∙ append-nil (block_string (block_of (filled_piece xs)))
           ∙ filled_string xs small short
           ∙ ap (λ (k : ℕ). string xs ++ zeros (8 * k)) left
     ]
 
-part_string : (xs : List ℕ) → AreBytes xs → joined (blocks xs) ≡ padded (string xs)
+part_string : (xs : List ℕ) → AreBytes xs → joined (blocks xs) ≡ padded_string_string (string xs)
 unfolding blocks
 part_string xs small =
     let n : ℕ = length xs in

@@ -1,6 +1,6 @@
 -- What the call on a whole header and a whole body answers.
 use Rattle.std.specs.Prelude.{ℕ, List, length, Ok, Result}
-use Rattle.field.specs.declared.kinds.Block.{Block}
+use Rattle.field.specs.declared.block.Block.{Block}
 use Rattle.refusal.specs.declared.Refusal.{Refusal}
 use Rattle.message.specs.declared.digest.Digest.{Digest}
 use Rattle.message.specs.Blocks.{block_list}
@@ -15,5 +15,5 @@ digest_of subkey pad header body = record {
 }
 
 -- the header's limit is looked at first
-abbrev pub answer : Block → Block → List ℕ → List ℕ → Result Digest Refusal
-answer subkey pad header body = within_limits header body (Ok (digest_of subkey pad header body))
+abbrev pub digest_answer : Block → Block → List ℕ → List ℕ → Result Digest Refusal
+digest_answer subkey pad header body = within_limits header body (Ok (digest_of subkey pad header body))

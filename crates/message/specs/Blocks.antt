@@ -2,7 +2,7 @@
 use Rattle.std.specs.Prelude.{ℕ, zero, suc, ◌+◌, ◌-◌, ◌*◌, ◌/◌, ◌<◌, List, [], ◌∷◌, ◌++◌, length, take, drop, replicate, slice_index}
 use Rattle.field.specs.Bytes.{block_of}
 use Rattle.field.specs.Digits.{digits}
-use Rattle.field.specs.declared.kinds.Block.{Block}
+use Rattle.field.specs.declared.block.Block.{Block}
 
 -- numbers below 256
 abbrev pub AreBytes : List ℕ → Type 0
@@ -13,13 +13,13 @@ abbrev pub blocks_taken : ℕ → ℕ
 blocks_taken n = (n + 15) / 16
 
 -- zeros up to 16 bytes
-abbrev pub filled : List ℕ → List ℕ
-filled piece = piece ++ replicate (16 - length piece) 0
+abbrev pub filled_piece : List ℕ → List ℕ
+filled_piece piece = piece ++ replicate (16 - length piece) 0
 
 -- n blocks, 16 bytes at a time
 abbrev pub cut : ℕ → List ℕ → List Block
 cut zero bytes = []
-cut (suc n) bytes = block_of (filled (take 16 bytes)) ∷ cut n (drop 16 bytes)
+cut (suc n) bytes = block_of (filled_piece (take 16 bytes)) ∷ cut n (drop 16 bytes)
 
 -- the blocks of one part; an empty part has none
 unfoldable pub blocks : List ℕ → List Block

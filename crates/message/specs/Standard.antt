@@ -1,7 +1,7 @@
 -- The hash and the tag in the words of NIST SP 800-38D, over strings of bits. A bit is 0 or 1, and the leftmost comes first.
 use Rattle.std.specs.Prelude.{◌≡◌, ℕ, zero, suc, ◌+◌, ◌-◌, ◌*◌, ◌/◌, List, [], ◌∷◌, ◌++◌, length, take, drop, replicate, bit_xor}
 use Rattle.field.specs.Digits.{digits}
-use Rattle.field.specs.declared.kinds.Block.{Block}
+use Rattle.field.specs.declared.block.Block.{Block}
 
 -- [x]s, the number x as a string of s bits
 abbrev pub bits : ℕ → ℕ → List ℕ
@@ -64,12 +64,12 @@ unfoldable pub ghash : List ℕ → List ℕ → List ℕ
 ghash h s = ghash_from h (zeros 128) (length s / 128) s
 
 -- A ‖ 0^v, the least v that fills up to a multiple of 128
-abbrev pub padded : List ℕ → List ℕ
-padded a = a ++ zeros (128 * ((length a + 127) / 128) - length a)
+abbrev pub padded_string_string : List ℕ → List ℕ
+padded_string_string a = a ++ zeros (128 * ((length a + 127) / 128) - length a)
 
 -- A ‖ 0^v ‖ C ‖ 0^u ‖ [len(A)]64 ‖ [len(C)]64
 unfoldable pub message : List ℕ → List ℕ → List ℕ
-message a c = padded a ++ (padded c ++ (bits 64 (length a) ++ bits 64 (length c)))
+message a c = padded_string_string a ++ (padded_string_string c ++ (bits 64 (length a) ++ bits 64 (length c)))
 
 -- a block as a string
 abbrev pub block_string : Block → List ℕ

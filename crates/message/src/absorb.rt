@@ -1,16 +1,16 @@
 // Blocks that are made from bytes and taken into a hash.
 ghost use Rattle.std.specs.Prelude.{◌≡◌, length, take};
 ghost use Rattle.field.specs.Bytes.{block_of};
-ghost use Rattle.field.specs.Evaluation.{absorbed};
+ghost use Rattle.field.specs.Evaluation.{horner};
 ghost use Rattle.field.specs.Kinds.{block_ring};
-ghost use Rattle.message.specs.Blocks.{filled, blocks, blocks_taken, block_of_counts};
+ghost use Rattle.message.specs.Blocks.{filled_piece, blocks, blocks_taken, block_of_counts};
 ghost use Rattle.message.specs.Standard.{block_string, string};
 
 use field::{Block, Element, evaluate};
 
 // The first 16 bytes; a shorter piece is filled with zeros.
 fn fill(piece: &[u8]) -> [u8; 16]
-    ensures { result ≡ filled (take 16 piece.now) }
+    ensures { result ≡ filled_piece (take 16 piece.now) }
 {
     if let Some(full) = piece.first_chunk::<16>() {
         return *full;
@@ -23,15 +23,15 @@ fn fill(piece: &[u8]) -> [u8; 16]
 /// The block of the first 16 bytes, the first byte highest; a shorter piece is filled with zeros. As a string of bits it is those
 /// bytes, one after the other.
 pub fn block_of(piece: &[u8]) -> Block
-    ensures value { result ≡ block_of (filled (take 16 piece.now)) }
-    ensures standard { block_string result ≡ string (filled (take 16 piece.now)) }
+    ensures value { result ≡ block_of (filled_piece (take 16 piece.now)) }
+    ensures standard { block_string result ≡ string (filled_piece (take 16 piece.now)) }
 {
     Block::from_bytes(fill(piece))
 }
 
 // The value after the blocks of one part, each taken in by (value + block)·subkey: the recursion itself, to which engines are held.
 pub(crate) fn absorb_part(subkey: Block, start: Block, part: &[u8]) -> Block
-    ensures { result ≡ absorbed block_ring subkey start (blocks part.now) }
+    ensures { result ≡ horner block_ring subkey start (blocks part.now) }
 {
     let (full, rest) = part.as_chunks::<16>();
     let value = evaluate(subkey, start, full);

@@ -1,6 +1,6 @@
 // The hash and tag of a whole message.
 ghost use Rattle.std.specs.Prelude.{◌≡◌, length, IfOk};
-ghost use Rattle.message.specs.Answer.{answer};
+ghost use Rattle.message.specs.Answer.{digest_answer};
 ghost use Rattle.message.specs.Blocks.{block_list};
 ghost use Rattle.message.specs.Standard.{MeetsStandard};
 
@@ -31,7 +31,7 @@ impl Message<'_> {
     // The hash at the subkey, and the tag under the pad, which is for one message alone where the subkey is for many: the standard's
     // recursion itself, to which the calls over an engine are compared.
     pub fn hash_and_tag(self, subkey: Block, pad: Block) -> Result<Digest, Refusal>
-        ensures value { result ≡ answer subkey pad self.entry.header.now self.entry.body.now }
+        ensures value { result ≡ digest_answer subkey pad self.entry.header.now self.entry.body.now }
         ensures standard { IfOk result (λ d. MeetsStandard subkey pad self.entry.header.now self.entry.body.now d.hash d.tag) }
     {
         self.check_lengths()?;

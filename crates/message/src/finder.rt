@@ -1,7 +1,7 @@
 // The blocks of a message, found by number.
 ghost use Rattle.std.specs.Prelude.{◌≡◌, ◌*◌, ◌<◌, length, take, drop};
 ghost use Rattle.message.specs.Blocks.{blocks_taken};
-ghost use Rattle.message.specs.Finding.{Covered, Finds};
+ghost use Rattle.message.specs.Finding.{CoversMessage, Finds};
 
 use crate::absorb::blocks_in;
 use crate::part::{Message, Part};
@@ -34,7 +34,7 @@ impl<'a> Message<'a> {
     // Block n, from 0, through the header's blocks and then the body's; the length block is none of them.
     pub fn find_block(self, n: usize) -> Option<Found<'a>>
         ensures answer { Finds self.entry.header.now self.entry.body.now n result }
-        ensures law { Covered self.entry.header.now self.entry.body.now }
+        ensures law { CoversMessage self.entry.header.now self.entry.body.now }
     {
         let before = blocks_in(self.header);
         if n < before {

@@ -1,7 +1,7 @@
 // A message, and its two parts, each with its limit.
 ghost use Rattle.std.specs.Prelude.{◌≡◌, IfOk, Some};
 ghost use Rattle.message.specs.Blocks.{AreBytes};
-ghost use Rattle.message.specs.Limits.{limit_of, name_of, refusal_of_part, within_limit, within_limits};
+ghost use Rattle.message.specs.Limits.{limit_of, part_name, part_refusal, within_limit, within_limits};
 
 use refusal::Refusal;
 use std::fmt;
@@ -30,7 +30,7 @@ impl Part {
 
     // Named and no From, since a part may be refused for other causes too.
     pub fn too_long(self) -> Refusal
-        ensures { result ≡ refusal_of_part self }
+        ensures { result ≡ part_refusal self }
     {
         match self {
             Part::Header => Refusal::HeaderTooLong,
@@ -51,7 +51,7 @@ impl Part {
 }
 
 impl fmt::Display for Part {
-    ghost output = { λ part. Some (name_of part) };
+    ghost output = { λ part. Some (part_name part) };
 
     fn fmt<W: fmt::Write>(&self, f: &mut fmt::Formatter<W>) -> fmt::Result {
         f.write_str(match self {

@@ -1,4 +1,4 @@
--- How the coefficients of a kind are tested, flipped and counted among the bits of a number.
+-- How the coefficients of a shape are tested, flipped and counted among the bits of a number.
 use Rattle.std.specs.Prelude.{◌≡◌, ℕ, zero, suc, ◌+◌, ◌-◌, ◌*◌, ◌/◌, ◌%◌, ◌^◌, ◌<◌, ◌≤◌, Bool, true, false, cond, not, Decides, MatchBool, ◌==◌, ◌≢◌, bit_and, bit_xor, nat_eq, refl}
 use Rattle.std.proofs.Common.{sym, ap, ap₂, ◌∙◌, add_comm, div-one, mod-eq_of_lt, mod-lt, mul-div_cancel, one-mul, pow-suc, lt_of_lt_of_le, one-add, arith, pow_pos, shr-shr}
 use Rattle.std.proofs.Math.Nat.{div-eq_of_lt, mod-one, mul-mod_left}
@@ -8,11 +8,11 @@ use Rattle.std.specs.Int.Count.{ones}
 use Rattle.std.proofs.Math.Dec.{eqb-suc-suc, eqb-suc-zero, eqb-zero-suc}
 use Rattle.std.proofs.Math.Pow.{pow-lt, split}
 use Rattle.std.proofs.lemmas.Bool.Decides.{nat_tests, Decides-eqb, Decides-like}
-use Rattle.field.specs.Binary.{Kind}
-use Rattle.field.specs.Held.{Held, entered, value_below}
+use Rattle.field.specs.Binary.{FieldShape}
+use Rattle.field.specs.Residues.{Residues, entered, value_below}
 use Rattle.field.specs.Orders.{bit_additive}
-use Rattle.polynomial.specs.Bits.{bit_in, flipped, ones_below}
-use Rattle.polynomial.specs.Coefficients.{Placed, same_ones}
+use Rattle.polynomial.specs.Bits.{bit_in, bits_after_flip, ones_below}
+use Rattle.polynomial.specs.Coefficients.{HasPlaces, same_ones}
 
 two : zero < 2
 two = omega arith
@@ -43,9 +43,9 @@ turned (suc zero) false h = refl
 turned (suc (suc d)) b h = absurd (omega arith)
 
 -- adding 2 ^ t turns the digit in place t and no other
-turned_digit : (a s t : ℕ)
+next_base_digit : (a s t : ℕ)
     → (bit_xor a (2 ^ t) / 2 ^ s % 2 == 1) ≡ cond (s == t) (not (a / 2 ^ s % 2 == 1)) (a / 2 ^ s % 2 == 1)
-turned_digit a s t =
+next_base_digit a s t =
     ap (λ (n : ℕ). nat_eq n 1) (bit_additive s a (2 ^ t) ∙ ap (bit_xor (a / 2 ^ s % 2)) (power_digit s t))
     ∙ turned (a / 2 ^ s % 2) (s == t) (mod-lt (a / 2 ^ s) two)
 
@@ -86,24 +86,24 @@ ones_parts k v u w mask e e' low =
 -- ---- the coefficients of an element
 
 -- an element whose number has its coefficients in their places
-module _ {V : Type 0} {kind : Kind} (placed : Placed kind) (held : Held V (2 ^ kind.width)) (x : V) where
+module _ {V : Type 0} {shape : FieldShape} (placed : HasPlaces shape) (held : Residues V (2 ^ shape.width)) (x : V) where
   abbrev number : ℕ
   number = held.value x
 
-  bit_digit : (k : ℕ) → k < kind.width → bit_in kind number k ≡ (number / 2 ^ placed.place k % 2 == 1)
+  bit_digit : (k : ℕ) → k < shape.width → bit_in shape number k ≡ (number / 2 ^ placed.place k % 2 == 1)
   bit_digit k h =
-      ap (λ (b : Bool). cond b (kind.digit number k == 1) false) (lt-ltb k kind.width h)
+      ap (λ (b : Bool). cond b (shape.digit number k == 1) false) (lt-ltb k shape.width h)
       ∙ ap (λ (d : ℕ). nat_eq d 1) (placed.digit number k)
 
   -- the test of one bit
-  pub tested : (k u t : ℕ) → k < kind.width → u ≡ number → t ≡ placed.place k → (bit_and (u / 2 ^ t) 1 == 1) ≡ bit_in kind number k
+  pub tested : (k u t : ℕ) → k < shape.width → u ≡ number → t ≡ placed.place k → (bit_and (u / 2 ^ t) 1 == 1) ≡ bit_in shape number k
   tested k u t h e e' =
       ap (λ (n : ℕ). nat_eq n 1) (and_mask (u / 2 ^ t) 1 ∙ ap₂ (λ (n s : ℕ). n / 2 ^ s % 2) e e') ∙ sym (bit_digit k h)
 
   -- the flip of one bit
-  pub flips : (y : V) (k u t room : ℕ) → y ≡ held.enter (bit_xor u (1 * 2 ^ t % 2 ^ room)) → kind.width ≤ room
-      → k < kind.width → u ≡ number → t ≡ placed.place k
-      → (j : ℕ) → bit_in kind (held.value y) j ≡ flipped kind.width (bit_in kind number) k j
+  pub flips : (y : V) (k u t room : ℕ) → y ≡ held.enter (bit_xor u (1 * 2 ^ t % 2 ^ room)) → shape.width ≤ room
+      → k < shape.width → u ≡ number → t ≡ placed.place k
+      → (j : ℕ) → bit_in shape (held.value y) j ≡ bits_after_flip shape.width (bit_in shape number) k j
   flips y k u t room made wide h e e' j =
       let place : ℕ = placed.place k in
       let one : 1 * 2 ^ t % 2 ^ room ≡ 2 ^ place =
@@ -111,20 +111,20 @@ module _ {V : Type 0} {kind : Kind} (placed : Placed kind) (held : Held V (2 ^ k
       ∙ mod-eq_of_lt (pow-lt (lt_of_lt_of_le (placed.within k h) wide)) in
       let whole : held.value y ≡ bit_xor number (2 ^ place) =
       ap held.value (made ∙ ap₂ (λ (m n : ℕ). held.enter (bit_xor m n)) e one)
-      ∙ value_below held (bit_xor number (2 ^ place)) (xor_lt kind.width number (2 ^ place) (held.fits x) (pow-lt (placed.within k h))) in
-      let after : kind.digit (held.value y) j ≡ bit_xor number (2 ^ place) / 2 ^ placed.place j % 2 =
+      ∙ value_below held (bit_xor number (2 ^ place)) (xor_lt shape.width number (2 ^ place) (held.fits x) (pow-lt (placed.within k h))) in
+      let after : shape.digit (held.value y) j ≡ bit_xor number (2 ^ place) / 2 ^ placed.place j % 2 =
       placed.digit (held.value y) j ∙ ap (λ (n : ℕ). n / 2 ^ placed.place j % 2) whole in
       let before = placed.digit number j in
-      let turn = turned_digit number (placed.place j) place in
+      let turn = next_base_digit number (placed.place j) place in
       let apart = placed.apart j k in
       grind (arith, nat_tests)
 
   -- the count of the ones
-  pub weighed : (w : ℕ) → w ≡ ones number → w ≡ ones_below kind.width (bit_in kind number)
+  pub weighed : (w : ℕ) → w ≡ ones number → w ≡ ones_below shape.width (bit_in shape number)
   weighed w e =
-      e ∙ ap ones (sym (mod-eq_of_lt (held.fits x))) ∙ sym (ones_low kind.width number)
+      e ∙ ap ones (sym (mod-eq_of_lt (held.fits x))) ∙ sym (ones_low shape.width number)
       ∙ sym (placed.every (λ s. nat_eq (number / 2 ^ s % 2) 1))
-      ∙ sym (same_ones kind.width (bit_in kind number) (λ k. nat_eq (number / 2 ^ placed.place k % 2) 1) bit_digit)
+      ∙ sym (same_ones shape.width (bit_in shape number) (λ k. nat_eq (number / 2 ^ placed.place k % 2) 1) bit_digit)
 
 -- ---- the test for zero
 
@@ -132,7 +132,7 @@ decided : {P : Type 0} (r : Bool) → Decides r P → MatchBool r P (P → ⊥)
 decided true d = d.0 refl
 decided false d = λ p. clash (d.1 p)
 
-pub zero_tested : {V : Type 0} {limit : ℕ} (held : Held V limit) (x : V) (u z : ℕ) → u ≡ held.value x → z ≡ zero
+pub zero_tested : {V : Type 0} {limit : ℕ} (held : Residues V limit) (x : V) (u z : ℕ) → u ≡ held.value x → z ≡ zero
     → MatchBool (u == z) (x ≡ held.enter zero) (x ≢ held.enter zero)
 zero_tested held x u z e e' =
     decided (u == z)

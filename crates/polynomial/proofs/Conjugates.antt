@@ -4,26 +4,26 @@ use Rattle.field.specs.Ring.{CommutativeRing}
 use Rattle.field.specs.Evaluation.{power}
 use Rattle.field.specs.declared.element.Element.{Ghosts}
 use Rattle.polynomial.specs.Polynomials.{linear_from, times_linear, conjugates}
-use Rattle.polynomial.specs.Steps.{raised, lower}
+use Rattle.polynomial.specs.Steps.{lower_product, lower_conjugates}
 use Rattle.polynomial.proofs.Values.{power_add}
 
 module _ {K : Type 0} (m : Ghosts K) where
-  linear_raised : (z before : K) (cs : List K) (top : K) → linear_from m z before (cs ++ (top ∷ [])) ≡ raised m z before cs top ++ (top ∷ [])
-  linear_raised z before [] top = refl
-  linear_raised z before (c ∷ cs) top = ap (λ (xs : List K). m.sum before (m.product z c) ∷ xs) (linear_raised z c cs top)
+  linear_lower_product : (z before : K) (cs : List K) (top : K) → linear_from m z before (cs ++ (top ∷ [])) ≡ lower_product m z before cs top ++ (top ∷ [])
+  linear_lower_product z before [] top = refl
+  linear_lower_product z before (c ∷ cs) top = ap (λ (xs : List K). m.sum before (m.product z c) ∷ xs) (linear_lower_product z c cs top)
 
-  pub conjugates_lower : (r : K) (n : ℕ) → conjugates m r n ≡ lower m r n ++ (m.one ∷ [])
+  pub conjugates_lower : (r : K) (n : ℕ) → conjugates m r n ≡ lower_conjugates m r n ++ (m.one ∷ [])
   conjugates_lower r zero = refl
   conjugates_lower r (suc n) =
-      ap (times_linear m (power m r (2 ^ n))) (conjugates_lower r n) ∙ linear_raised (power m r (2 ^ n)) m.zero (lower m r n) m.one
+      ap (times_linear m (power m r (2 ^ n))) (conjugates_lower r n) ∙ linear_lower_product (power m r (2 ^ n)) m.zero (lower_conjugates m r n) m.one
 
-  length_raised : (z before : K) (cs : List K) (top : K) → length (raised m z before cs top) ≡ suc (length cs)
-  length_raised z before [] top = refl
-  length_raised z before (c ∷ cs) top = ap suc (length_raised z c cs top)
+  length_lower_product : (z before : K) (cs : List K) (top : K) → length (lower_product m z before cs top) ≡ suc (length cs)
+  length_lower_product z before [] top = refl
+  length_lower_product z before (c ∷ cs) top = ap suc (length_lower_product z c cs top)
 
-  pub length_lower : (r : K) (n : ℕ) → length (lower m r n) ≡ n
+  pub length_lower : (r : K) (n : ℕ) → length (lower_conjugates m r n) ≡ n
   length_lower r zero = refl
-  length_lower r (suc n) = length_raised (power m r (2 ^ n)) m.zero (lower m r n) m.one ∙ ap suc (length_lower r n)
+  length_lower r (suc n) = length_lower_product (power m r (2 ^ n)) m.zero (lower_conjugates m r n) m.one ∙ ap suc (length_lower r n)
 
   -- the next square
   pub power_square : (laws : CommutativeRing m.zero m.one m.sum m.product) (r : K) (n : ℕ)

@@ -6,10 +6,10 @@ use Rattle.std.proofs.lemmas.List.{get_or_append_left}
 use Rattle.field.specs.Ring.{CommutativeRing}
 use Rattle.field.specs.Evaluation.{power}
 use Rattle.field.specs.declared.element.Element.{Ghosts}
-use Rattle.polynomial.specs.Polynomials.{value_at, element, stored, Annihilates, conjugates, SomeNeither}
+use Rattle.polynomial.specs.Polynomials.{value_at, element, coefficient_list, Annihilates, conjugates, SomeNeither}
 use Rattle.refusal.specs.declared.Refusal.TheVariants.{NotBinary}
-use Rattle.polynomial.specs.Outcomes.{Made}
-use Rattle.polynomial.specs.Steps.{lower}
+use Rattle.polynomial.specs.Outcomes.{Makes}
+use Rattle.polynomial.specs.Steps.{lower_conjugates}
 use Rattle.polynomial.proofs.Conjugates.{conjugates_lower}
 use Rattle.polynomial.proofs.Values.{value_push, one_product, conjugates_value, factors_vanish}
 
@@ -19,10 +19,10 @@ module _ {K : Type 0} (m : Ghosts K) (laws : CommutativeRing m.zero m.one m.sum 
   vanishes r (suc n) some = conjugates_value m laws r r (suc n) ∙ factors_vanish m laws even r n
 
   pub made_annihilates : (width : ℕ) (bits : ℕ → Bool) (r : K) → zero < width
-      → stored m width bits ++ (m.one ∷ []) ≡ conjugates m r width → Annihilates m width bits r
-  unfolding stored
+      → coefficient_list m width bits ++ (m.one ∷ []) ≡ conjugates m r width → Annihilates m width bits r
+  unfolding coefficient_list
   made_annihilates width bits r some made =
-      let cs : List K = stored m width bits in
+      let cs : List K = coefficient_list m width bits in
       let long : 0 + length cs ≡ width = zero-add (length cs) ∙ length-map-range_with_len (λ k. element m (bits k)) 0 width in
       laws.sum_comm (power m r width) (value_at m r cs)
       ∙ ap (m.sum (value_at m r cs)) (sym (one_product m laws (power m r width)) ∙ ap (λ n. m.product m.one (power m r n)) (sym long))
@@ -36,18 +36,18 @@ neither_above m xs ys (k, within, not-zero, not-one) =
     let longer : k < length (xs ++ ys) = subst (λ n. k < n) (sym (length-append xs ys)) (omega arith) in
     (k, longer, (λ e. not-zero (sym same ∙ e)), (λ e. not-one (sym same ∙ e)))
 
-pub neither_conjugates : {K : Type 0} (m : Ghosts K) (r : K) (n : ℕ) → SomeNeither m (lower m r n) → SomeNeither m (conjugates m r n)
+pub neither_conjugates : {K : Type 0} (m : Ghosts K) (r : K) (n : ℕ) → SomeNeither m (lower_conjugates m r n) → SomeNeither m (conjugates m r n)
 neither_conjugates m r n some =
-    subst (λ xs. SomeNeither m xs) (sym (conjugates_lower m r n)) (neither_above m (lower m r n) (m.one ∷ []) some)
+    subst (λ xs. SomeNeither m xs) (sym (conjugates_lower m r n)) (neither_above m (lower_conjugates m r n) (m.one ∷ []) some)
 
 -- ---- what is answered for what is read
 
 module _ {K : Type 0} (m : Ghosts K) (width : ℕ) (bits : K → ℕ → Bool) (r : K) where
   -- the proposal that is the product, or none where a coefficient is neither zero nor one
   abbrev pub Found : Option K → Type 0
-  Found found = MatchOption found (SomeNeither m (lower m r width)) (λ p. stored m width (bits p) ≡ lower m r width)
+  Found found = MatchOption found (SomeNeither m (lower_conjugates m r width)) (λ p. coefficient_list m width (bits p) ≡ lower_conjugates m r width)
 
-  pub found_made : (room : ℕ) (found : Option K) → width ≤ room → Found found → Made m width room bits r (ok_or found NotBinary)
+  pub found_made : (room : ℕ) (found : Option K) → width ≤ room → Found found → Makes m width room bits r (ok_or found NotBinary)
   found_made room (Some p) wide same = (wide, ap (λ (cs : List K). cs ++ (m.one ∷ [])) same ∙ sym (conjugates_lower m r width))
   found_made room None wide some = inr (refl, wide, neither_conjugates m r width some)
 

@@ -2,7 +2,7 @@
 use Rattle.std.proofs.Common.{◌≡◌, ℕ, ◌+◌, ◌<◌, ◌≤◌, List, [], ◌∷◌, ◌++◌, length, get_or, take, drop, set, sym, ap, ◌∙◌, subst, ap₂, append_assoc, add-zero, arith, length-take}
 use Rattle.std.proofs.lemmas.List.{get_or-take, get_or-drop, drop_more, take_more_set, drop-set-lt, drop-drop, drop_all, take-append-drop}
 use Rattle.field.specs.declared.element.Element.{Ghosts}
-use Rattle.polynomial.specs.Steps.{raised}
+use Rattle.polynomial.specs.Steps.{lower_product}
 
 -- lists with the same end have the same element there
 pub same_here : {X : Type 0} (xs ys : List X) (j : ℕ) (d : X) → drop j xs ≡ drop j ys → get_or xs j d ≡ get_or ys j d
@@ -16,11 +16,11 @@ same_after xs ys j same = sym (drop-drop 1 j xs) ∙ ap (drop 1) same ∙ drop-d
 
 module _ {K : Type 0} (m : Ghosts K) (z top : K) (old now : List K) (d : ℕ) (long : length now ≡ length old) (room : d < length old) where
   abbrev whole : List K
-  whole = raised m z m.zero (take d old) top
+  whole = lower_product m z m.zero (take d old) top
 
   -- what the places from j on will hold, given the coefficient below
   abbrev rest : ℕ → K → List K
-  rest j below = raised m z below (drop j (take d old)) top
+  rest j below = lower_product m z below (drop j (take d old)) top
 
   pub raise_more : (j : ℕ) (below here v : K) → j < d → whole ≡ take j now ++ rest j below → drop j now ≡ drop j old
       → here ≡ get_or now j here → v ≡ m.sum below (m.product z here) → whole ≡ take (j + 1) (set now j v) ++ rest (j + 1) here
@@ -31,7 +31,7 @@ module _ {K : Type 0} (m : Ghosts K) (z top : K) (old now : List K) (d : ℕ) (l
       let apart : drop j (take d old) ≡ here ∷ drop (j + 1) (take d old) =
       drop_more (take d old) j here within ∙ ap (λ x. x ∷ drop (j + 1) (take d old)) read-old in
       so_far
-      ∙ ap (λ xs. take j now ++ raised m z below xs top) apart
+      ∙ ap (λ xs. take j now ++ lower_product m z below xs top) apart
       ∙ ap (λ x. take j now ++ (x ∷ rest (j + 1) here)) (sym made)
       ∙ sym (append_assoc (take j now) (v ∷ []) (rest (j + 1) here))
       ∙ ap (λ xs. xs ++ rest (j + 1) here) (sym (take_more_set now j v long'))
@@ -47,6 +47,6 @@ module _ {K : Type 0} (m : Ghosts K) (z top : K) (old now : List K) (d : ℕ) (l
       let front : take (d + 1) (set now d v) ≡ whole =
       take_more_set now d v within
       ∙ ap (λ x. take d now ++ (x ∷ [])) made
-      ∙ ap (λ xs. take d now ++ raised m z below xs top) (sym none)
+      ∙ ap (λ xs. take d now ++ lower_product m z below xs top) (sym none)
       ∙ sym so_far in
       sym (take-append-drop (d + 1) (set now d v)) ∙ ap₂ (λ xs ys. xs ++ ys) front (after_more d v same)

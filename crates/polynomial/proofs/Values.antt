@@ -6,7 +6,7 @@ use Rattle.field.specs.Ring.{CommutativeRing}
 use Rattle.field.specs.Evaluation.{power}
 use Rattle.field.specs.declared.element.Element.{Ghosts}
 use Rattle.field.proofs.Horner.{zero_sum, sum_product, product_zero, zero_product}
-use Rattle.polynomial.specs.Polynomials.{value_from, value_at, element, stored, linear_from, times_linear, conjugates, factors_at}
+use Rattle.polynomial.specs.Polynomials.{value_from, value_at, element, coefficient_list, linear_from, times_linear, conjugates, factors_at}
 
 module _ {K : Type 0} (m : Ghosts K) (laws : CommutativeRing m.zero m.one m.sum m.product) where
   pub one_product : (x : K) → m.product m.one x ≡ x
@@ -80,10 +80,10 @@ module _ {K : Type 0} (m : Ghosts K) (laws : CommutativeRing m.zero m.one m.sum 
   chosen false p = zero_product m laws p
 
   -- a proposal's value, one coefficient more
-  pub stored_more : (bits : ℕ → Bool) (r : K) (k : ℕ)
-      → value_at m r (stored m (k + 1) bits) ≡ m.sum (value_at m r (stored m k bits)) (cond (bits k) (power m r k) m.zero)
-  unfolding stored
-  stored_more bits r k =
+  pub coefficients_more : (bits : ℕ → Bool) (r : K) (k : ℕ)
+      → value_at m r (coefficient_list m (k + 1) bits) ≡ m.sum (value_at m r (coefficient_list m k bits)) (cond (bits k) (power m r k) m.zero)
+  unfolding coefficient_list
+  coefficients_more bits r k =
       let f : ℕ → K = λ n. element m (bits n) in
       ap (value_at m r) (map-range_with_len_more f 0 k k (zero-add k))
       ∙ value_push r 0 (map f (range_with_len 0 k)) (f k)
@@ -107,7 +107,7 @@ module _ {K : Type 0} (m : Ghosts K) (laws : CommutativeRing m.zero m.one m.sum 
       (λ t. taken_from bits r n (j + 1) t ∙ ap (λ i. m.sum t (value_from m r i cs)) (add-suc j 0 ∙ ap suc (add-zero j)))
 
   -- a proposal's value is the sum of the powers where it has a one
-  pub stored_value : (bits : ℕ → Bool) (r : K) (n : ℕ)
-      → fold (λ t x. m.sum t x.1) m.zero (filter (λ x. bits x.0) (enumerate_from 0 (map (power m r) (range_with_len 0 n)))) ≡ value_at m r (stored m n bits)
-  unfolding stored
-  stored_value bits r n = taken_from bits r n 0 m.zero ∙ zero_sum m laws (value_at m r (stored m n bits))
+  pub coefficients_value : (bits : ℕ → Bool) (r : K) (n : ℕ)
+      → fold (λ t x. m.sum t x.1) m.zero (filter (λ x. bits x.0) (enumerate_from 0 (map (power m r) (range_with_len 0 n)))) ≡ value_at m r (coefficient_list m n bits)
+  unfolding coefficient_list
+  coefficients_value bits r n = taken_from bits r n 0 m.zero ∙ zero_sum m laws (value_at m r (coefficient_list m n bits))

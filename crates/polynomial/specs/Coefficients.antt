@@ -1,9 +1,9 @@
--- Where the coefficients of a kind stand among the bits of a number.
+-- Where the coefficients of a shape stand among the bits of a number.
 use Rattle.std.specs.Prelude.{◌≡◌, ℕ, zero, suc, ◌+◌, ◌-◌, ◌*◌, ◌/◌, ◌%◌, ◌^◌, ◌<◌, Bool, true, false, cond, ◌==◌, nat_lt, refl}
 use Rattle.std.proofs.Common.{sym, ap, ap₂, ◌∙◌, arith, pow_pos}
 use Rattle.std.proofs.Math.Nat.{div-eq_of_lt}
-use Rattle.field.specs.Binary.{Kind, high_first, low_first}
-use Rattle.field.specs.Kinds.{block_kind, nibble_kind}
+use Rattle.field.specs.Binary.{FieldShape, high_first, low_first}
+use Rattle.field.specs.Kinds.{block_shape, nibble_shape}
 use Rattle.polynomial.specs.Bits.{bit_in, ones_below}
 
 pub same_ones : (n : ℕ) (f g : ℕ → Bool) → ((k : ℕ) → k < n → f k ≡ g k) → ones_below n f ≡ ones_below n g
@@ -29,15 +29,15 @@ reversed_ones (suc n) f =
     ∙ sym (first_one n f)
 
 -- each coefficient is the digit in a place of its own, and every place below the width is one
-pub record Placed (kind : Kind) : Type 0 where
+pub record HasPlaces (shape : FieldShape) : Type 0 where
   pub place : ℕ → ℕ
-  pub digit : (v k : ℕ) → kind.digit v k ≡ v / 2 ^ place k % 2
-  pub within : (k : ℕ) → k < kind.width → place k < kind.width
-  pub apart : (j k : ℕ) → j < kind.width → k < kind.width → place j ≡ place k → j ≡ k
-  pub every : (f : ℕ → Bool) → ones_below kind.width (λ k. f (place k)) ≡ ones_below kind.width f
+  pub digit : (v k : ℕ) → shape.digit v k ≡ v / 2 ^ place k % 2
+  pub within : (k : ℕ) → k < shape.width → place k < shape.width
+  pub apart : (j k : ℕ) → j < shape.width → k < shape.width → place j ≡ place k → j ≡ k
+  pub every : (f : ℕ → Bool) → ones_below shape.width (λ k. f (place k)) ≡ ones_below shape.width f
 
-abbrev pub high_placed : (width rest : ℕ) → Placed (high_first width rest)
-high_placed width rest = record {
+abbrev pub high_places : (width rest : ℕ) → HasPlaces (high_first width rest)
+high_places width rest = record {
   place = λ k. width - suc k;
   digit = λ v k. refl;
   within = λ k h. omega arith;
@@ -45,8 +45,8 @@ high_placed width rest = record {
   every = reversed_ones width;
 }
 
-abbrev pub low_placed : (width rest : ℕ) → Placed (low_first width rest)
-low_placed width rest = record {
+abbrev pub low_places : (width rest : ℕ) → HasPlaces (low_first width rest)
+low_places width rest = record {
   place = λ k. k;
   digit = λ v k. refl;
   within = λ k h. h;
@@ -54,18 +54,18 @@ low_placed width rest = record {
   every = λ f. refl;
 }
 
-abbrev pub block_placed : Placed block_kind
-block_placed = high_placed 128 (0xE1 * 2 ^ 120)
+abbrev pub block_places : HasPlaces block_shape
+block_places = high_places 128 (0xE1 * 2 ^ 120)
 
-abbrev pub nibble_placed : Placed nibble_kind
-nibble_placed = low_placed 4 3
+abbrev pub nibble_places : HasPlaces nibble_shape
+nibble_places = low_places 4 3
 
 cond_same : (b : Bool) (x : Bool) → cond b x x ≡ x
 cond_same true x = refl
 cond_same false x = refl
 
 -- zero has no ones
-pub no_ones : {kind : Kind} (placed : Placed kind) (k : ℕ) → bit_in kind 0 k ≡ false
-no_ones {kind} placed k =
-    let none : kind.digit 0 k ≡ 0 = placed.digit 0 k ∙ ap (λ (n : ℕ). n % 2) (div-eq_of_lt (pow_pos (placed.place k))) in
-    ap (λ (d : ℕ). cond (nat_lt k kind.width) (d == 1) false) none ∙ cond_same (nat_lt k kind.width) false
+pub no_ones : {shape : FieldShape} (placed : HasPlaces shape) (k : ℕ) → bit_in shape 0 k ≡ false
+no_ones {shape} placed k =
+    let none : shape.digit 0 k ≡ 0 = placed.digit 0 k ∙ ap (λ (n : ℕ). n % 2) (div-eq_of_lt (pow_pos (placed.place k))) in
+    ap (λ (d : ℕ). cond (nat_lt k shape.width) (d == 1) false) none ∙ cond_same (nat_lt k shape.width) false

@@ -19,12 +19,12 @@ module _ {K : Type 0} (m : Ghosts K) where
   element bit = cond bit m.one m.zero
 
   -- the first n coefficients of a proposal
-  unfoldable pub stored : ℕ → (ℕ → Bool) → List K
-  stored n bits = map (λ k. element (bits k)) (range_with_len 0 n)
+  unfoldable pub coefficient_list : ℕ → (ℕ → Bool) → List K
+  coefficient_list n bits = map (λ k. element (bits k)) (range_with_len 0 n)
 
   -- A proposal of n bits stands for t^n + the sum of all c_j·t^j; it annihilates r where that is zero at r.
   abbrev pub Annihilates : ℕ → (ℕ → Bool) → K → Type 0
-  Annihilates n bits r = m.sum (power m r n) (value_at r (stored n bits)) ≡ m.zero
+  Annihilates n bits r = m.sum (power m r n) (value_at r (coefficient_list n bits)) ≡ m.zero
 
   -- t + z times a polynomial; `before` is the coefficient below the next one
   abbrev pub linear_from : K → K → List K → List K
@@ -49,5 +49,5 @@ module _ {K : Type 0} (m : Ghosts K) where
   SomeNeither cs = (k : ℕ) × (k < length cs) × (slice_index_or cs k m.zero ≢ m.zero) × (slice_index_or cs k m.zero ≢ m.one)
 
   -- a scratch whose first n elements are zero and whose others stay
-  abbrev pub wiped : ℕ → List K → List K
-  wiped n scratch = replicate n m.zero ++ drop n scratch
+  abbrev pub zeroed_scratch : ℕ → List K → List K
+  zeroed_scratch n scratch = replicate n m.zero ++ drop n scratch

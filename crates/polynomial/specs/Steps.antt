@@ -5,11 +5,11 @@ use Rattle.field.specs.declared.element.Element.{Ghosts}
 
 module _ {K : Type 0} (m : Ghosts K) where
   -- t + z times cs and a highest coefficient `top`, without the highest of the result, which is `top` again
-  abbrev pub raised : K → K → List K → K → List K
-  raised z before [] top = m.sum before (m.product z top) ∷ []
-  raised z before (c ∷ cs) top = m.sum before (m.product z c) ∷ raised z c cs top
+  abbrev pub lower_product : K → K → List K → K → List K
+  lower_product z before [] top = m.sum before (m.product z top) ∷ []
+  lower_product z before (c ∷ cs) top = m.sum before (m.product z c) ∷ lower_product z c cs top
 
   -- the product of the first n factors without its highest coefficient, which is one
-  abbrev pub lower : K → ℕ → List K
-  lower r zero = []
-  lower r (suc n) = raised (power m r (2 ^ n)) m.zero (lower r n) m.one
+  abbrev pub lower_conjugates : K → ℕ → List K
+  lower_conjugates r zero = []
+  lower_conjugates r (suc n) = lower_product (power m r (2 ^ n)) m.zero (lower_conjugates r n) m.one

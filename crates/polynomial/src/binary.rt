@@ -1,6 +1,6 @@
 // Kinds of element whose coefficients are bits.
 ghost use Rattle.std.specs.Prelude.{◌≡◌, ℕ, ◌<◌, Bool, false, MatchBool, ◌≢◌};
-ghost use Rattle.polynomial.specs.Bits.{flipped, ones_below};
+ghost use Rattle.polynomial.specs.Bits.{bits_after_flip, ones_below};
 
 use field::Element;
 
@@ -20,7 +20,7 @@ pub trait Binary: Element + Copy {
 
     // With the coefficient of index k changed; past the width nothing is.
     fn flip(self, k: usize) -> Self
-        ensures { (j : ℕ) → bits result j ≡ flipped width (bits self) k j };
+        ensures { (j : ℕ) → bits result j ≡ bits_after_flip width (bits self) k j };
 
     // No default, nor has `weight`: it would ask every kind for equality and for its bits as a number.
     fn is_zero(self) -> bool

@@ -1,8 +1,8 @@
 // Blocks as a binary kind.
-ghost use Rattle.field.specs.Kinds.{block_kind};
+ghost use Rattle.field.specs.Kinds.{block_shape};
 ghost use Rattle.polynomial.specs.Bits.{bit_in};
 ghost use Rattle.field.specs.Instances.{block_even};
-ghost use Rattle.polynomial.specs.Coefficients.{no_ones, block_placed};
+ghost use Rattle.polynomial.specs.Coefficients.{no_ones, block_places};
 ghost use Rattle.std.proofs.Common.{lit<};
 
 use crate::binary::Binary;
@@ -11,11 +11,11 @@ use field::{Block, Element};
 impl Binary for Block {
     ghost width = { 128 };
 
-    ghost bits = { λ b k. bit_in block_kind b.bits k };
+    ghost bits = { λ b k. bit_in block_shape b.bits k };
 
     ghost wide = { lit< tt };
 
-    ghost blank = { λ k. no_ones block_placed k };
+    ghost blank = { λ k. no_ones block_places k };
 
     ghost even = { block_even };
 

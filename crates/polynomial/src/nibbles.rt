@@ -1,8 +1,8 @@
 // Nibbles as a binary kind.
-ghost use Rattle.field.specs.Kinds.{nibble_kind};
+ghost use Rattle.field.specs.Kinds.{nibble_shape};
 ghost use Rattle.polynomial.specs.Bits.{bit_in};
 ghost use Rattle.field.specs.Instances.{nibble_even};
-ghost use Rattle.polynomial.specs.Coefficients.{no_ones, nibble_placed};
+ghost use Rattle.polynomial.specs.Coefficients.{no_ones, nibble_places};
 ghost use Rattle.std.proofs.Common.{lit<};
 
 use crate::binary::Binary;
@@ -11,11 +11,11 @@ use field::{Element, Nibble};
 impl Binary for Nibble {
     ghost width = { 4 };
 
-    ghost bits = { λ b k. bit_in nibble_kind b.bits k };
+    ghost bits = { λ b k. bit_in nibble_shape b.bits k };
 
     ghost wide = { lit< tt };
 
-    ghost blank = { λ k. no_ones nibble_placed k };
+    ghost blank = { λ k. no_ones nibble_places k };
 
     ghost even = { nibble_even };
 

@@ -2,8 +2,8 @@
 ghost use Rattle.std.specs.Prelude.{◌≡◌, map, length};
 ghost use Rattle.std.specs.List.{range_with_len};
 ghost use Rattle.field.specs.Evaluation.{power};
-ghost use Rattle.polynomial.specs.Outcomes.{PolynomialTried, scratch_after};
-ghost use Rattle.polynomial.specs.Polynomials.{value_at, stored};
+ghost use Rattle.polynomial.specs.Outcomes.{TriesProposal, scratch_after};
+ghost use Rattle.polynomial.specs.Polynomials.{value_at, coefficient_list};
 
 use crate::accepted::Accepted;
 use crate::binary::Binary;
@@ -28,7 +28,7 @@ fn fill_powers<E: Element + Copy>(powers: &mut [E], key: E) -> E
 
 // The sum of the powers where the proposal has a one: its value at the key, but for the highest term.
 fn sum_powers<K: Binary>(powers: &[K], proposal: K) -> K
-    ensures { (key : K) → powers.now ≡ map (power K.Element key) (range_with_len 0 (length powers.now)) → result ≡ value_at K.Element key (stored K.Element (length powers.now) (K.Binary.bits proposal)) }
+    ensures { (key : K) → powers.now ≡ map (power K.Element key) (range_with_len 0 (length powers.now)) → result ≡ value_at K.Element key (coefficient_list K.Element (length powers.now) (K.Binary.bits proposal)) }
 {
     powers
         .iter()
@@ -41,7 +41,7 @@ impl<K: Binary> Scratch<'_, K> {
     // The proposed polynomial's value at the key, by powers that are written to the scratch.
     fn value_at(&mut self, key: K, proposal: K) -> K
         ensures same_reference { self.new.elements.ghost_name ≡ self.old.elements.ghost_name }
-        ensures value { result ≡ K.Element.sum (power K.Element key K.Binary.width) (value_at K.Element key (stored K.Element K.Binary.width (K.Binary.bits proposal))) }
+        ensures value { result ≡ K.Element.sum (power K.Element key K.Binary.width) (value_at K.Element key (coefficient_list K.Element K.Binary.width (K.Binary.bits proposal))) }
     {
         let powers = &mut *self.elements;
         let highest = fill_powers(powers, key);
@@ -55,7 +55,7 @@ pub fn try_polynomial<K: Binary>(
     proposal: K,
     scratch: &mut [K],
 ) -> Result<Trial<K>, Refusal>
-    ensures value { PolynomialTried K.Binary.own K.Element (length scratch.old) subkey proposal result }
+    ensures value { TriesProposal K.Binary.own K.Element (length scratch.old) subkey proposal result }
     ensures scratch { scratch.new ≡ scratch_after K.Element K.Binary.width scratch.old }
 {
     if scratch.len() < K::width() {

@@ -6,7 +6,7 @@ use Rattle.std.proofs.lemmas.List.Sums.{count_by-le-length, length-filter}
 use Rattle.std.proofs.lemmas.List.Filters.{length-filter_more}
 use Rattle.std.proofs.lemmas.List.FromFn.{length-enumerate_from, get_or-enumerate_from}
 use Rattle.std.specs.List.{enumerate_from}
-use Rattle.format.specs.Faults.{Previous, first, kind_in, used_in, previous, fault_of, scanned, data_of}
+use Rattle.format.specs.Faults.{Previous, first, kind_in, used_in, previous, fault_of, scan_result, data_of}
 use Rattle.reading.specs.Scanning.{IsTallyOf, blocks_of_kind, tally_with}
 use Rattle.reading.specs.declared.scanning.Tally.{Tally}
 use Rattle.reading.specs.Shapes.{previous_of}
@@ -15,7 +15,7 @@ use Rattle.reading.proofs.Scans.{AllWhole, data_of_kind, data_on, data_length, d
 
 -- what is known after k blocks
 pub record Upto (bs : List (List ℕ)) (k : ℕ) (s : Scan) : Type 0 where
-  pub scan : scanned 0 first bs ≡ scanned k (previous_of s.last) (drop k bs)
+  pub scan : scan_result 0 first bs ≡ scan_result k (previous_of s.last) (drop k bs)
   pub header : IsTallyOf 1 (take k bs) s.header
   pub body : IsTallyOf 2 (take k bs) s.body
 
@@ -126,7 +126,7 @@ so_far_keeps bs whole xs q x w j s more e =
     let size : length b ≡ 512 = ap length (p.2 ∙ get_or_default bs k b [] p.0) ∙ whole k p.0 in
     let none : fault_of k last (get_or bs k b) ≡ None = ap₂ (λ n c. fault_of n last c) (sym p.1) (sym p.2) ∙ s.good in
     subst (λ n. Upto bs n w.1) (sym (length_push xs x)) record {
-      scan = u.scan ∙ scan_more k last bs b p.0 none ∙ ap (λ (r : Previous). scanned (k + 1) r (drop (k + 1) bs)) (ap previous (sym p.2) ∙ sym s.last);
+      scan = u.scan ∙ scan_more k last bs b p.0 none ∙ ap (λ (r : Previous). scan_result (k + 1) r (drop (k + 1) bs)) (ap previous (sym p.2) ∙ sym s.last);
       header = tally_on 1 k bs b q.1.header w.1.header p.0 p.2 size s.short s.header u.header;
       body = tally_on 2 k bs b q.1.body w.1.body p.0 p.2 size s.short s.body u.body;
     }

@@ -4,7 +4,7 @@ use Rattle.std.proofs.lemmas.Bool.{cases_lt, cond-true, cond-false, eq-eqb, ne_e
 use Rattle.std.proofs.lemmas.Bool.Decides.{nat_tests}
 use Rattle.std.proofs.lemmas.List.{take_at, drop_at}
 use Rattle.std.specs.List.{concat}
-use Rattle.format.specs.Faults.{Previous, first, previous, kind_in, used_in, data_in, is_order_good, fault_of, scanned, data_of}
+use Rattle.format.specs.Faults.{Previous, first, previous, kind_in, used_in, data_in, is_order_good, fault_of, scan_result, data_of}
 use Rattle.format.proofs.BlockFields.{form_parts}
 use Rattle.format.proofs.Scans.{faultless, went_on}
 use Rattle.format.proofs.Sequences.{not_past_end}
@@ -15,26 +15,26 @@ order_kept : (p : Previous) (kind : ℕ) → is_order_good p kind ≡ true → p
 order_kept p kind good = grind (arith, nat_tests)
 
 -- after a block of a later kind stands none of an earlier
-none_later : (kind k : ℕ) (p q : Previous) (bs : List (List ℕ)) → scanned k p bs ≡ Ok q → kind < p.kind → blocks_of_kind kind bs ≡ []
+none_later : (kind k : ℕ) (p q : Previous) (bs : List (List ℕ)) → scan_result k p bs ≡ Ok q → kind < p.kind → blocks_of_kind kind bs ≡ []
 none_later kind k p q [] done less = refl
 none_later kind k p q (b ∷ bs) done less =
-    let on = went_on (fault_of k p b) (scanned (suc k) (previous b) bs) q done in
+    let on = went_on (fault_of k p b) (scan_result (suc k) (previous b) bs) q done in
     let order = order_kept p (kind_in b) (faultless k p b on.0).order in
     let other : eqb (kind_in b) kind ≡ false = ne_eqb (kind_in b) kind (λ same. omega (arith, same, less, order)) in
     cond-false _ (b ∷ blocks_of_kind kind bs) (blocks_of_kind kind bs) other ∙ none_later kind (suc k) (previous b) q bs on.1 (omega (arith, less, order))
 
 -- after an end block stands none
-none_after_end : (k : ℕ) (p q : Previous) (bs : List (List ℕ)) → scanned k p bs ≡ Ok q → p.kind ≡ 3 → bs ≡ []
+none_after_end : (k : ℕ) (p q : Previous) (bs : List (List ℕ)) → scan_result k p bs ≡ Ok q → p.kind ≡ 3 → bs ≡ []
 none_after_end k p q [] done end = refl
 none_after_end k p q (b ∷ bs) done end =
-    let on = went_on (fault_of k p b) (scanned (suc k) (previous b) bs) q done in
+    let on = went_on (fault_of k p b) (scan_result (suc k) (previous b) bs) q done in
     absurd (not_past_end p (kind_in b) (faultless k p b on.0).order end)
 
 -- header blocks, body blocks, end block
-pub in_order : (k : ℕ) (p q : Previous) (bs : List (List ℕ)) → scanned k p bs ≡ Ok q → bs ≡ blocks_of_kind 1 bs ++ (blocks_of_kind 2 bs ++ blocks_of_kind 3 bs)
+pub in_order : (k : ℕ) (p q : Previous) (bs : List (List ℕ)) → scan_result k p bs ≡ Ok q → bs ≡ blocks_of_kind 1 bs ++ (blocks_of_kind 2 bs ++ blocks_of_kind 3 bs)
 in_order k p q [] done = refl
 in_order k p q (b ∷ bs) done =
-    let on = went_on (fault_of k p b) (scanned (suc k) (previous b) bs) q done in
+    let on = went_on (fault_of k p b) (scan_result (suc k) (previous b) bs) q done in
     let form = (faultless k p b on.0).form in
     let least = (form_parts b form).low in
     let most = (form_parts b form).high in
@@ -72,13 +72,13 @@ in_order k p q (b ∷ bs) done =
     ]
 
 -- the one end block, where the last block is one
-pub one_end : (k : ℕ) (p q : Previous) (bs : List (List ℕ)) → scanned k p bs ≡ Ok q → q.kind ≡ 3 → (p.kind ≡ 3 → ⊥)
+pub one_end : (k : ℕ) (p q : Previous) (bs : List (List ℕ)) → scan_result k p bs ≡ Ok q → q.kind ≡ 3 → (p.kind ≡ 3 → ⊥)
     → (e : List ℕ) × (blocks_of_kind 3 bs ≡ e ∷ []) × (used_in e ≡ 16)
 one_end k p q [] done end other =
     let same : p ≡ q = cc in
     absurd (other (ap (λ (r : Previous). r.kind) same ∙ end))
 one_end k p q (b ∷ bs) done end other =
-    let on = went_on (fault_of k p b) (scanned (suc k) (previous b) bs) q done in
+    let on = went_on (fault_of k p b) (scan_result (suc k) (previous b) bs) q done in
     let form = (faultless k p b on.0).form in
     elim (cases_lt (kind_in b) 3) [
       | inl before ↦
@@ -104,7 +104,7 @@ data_of_blocks kind [] = refl
 data_of_blocks kind (b ∷ bs) = joined_more (eqb (kind_in b) kind) b (data_of kind bs) (blocks_of_kind kind bs) (data_of_blocks kind bs)
 
 -- blocks without fault that end with an end block, cut after the blocks of the header and after those of the body
-module _ (bs : List (List ℕ)) (q : Previous) (header body : ℕ) (done : scanned 0 first bs ≡ Ok q) (end : q.kind ≡ 3)
+module _ (bs : List (List ℕ)) (q : Previous) (header body : ℕ) (done : scan_result 0 first bs ≡ Ok q) (end : q.kind ≡ 3)
     (headers : header ≡ length (blocks_of_kind 1 bs)) (bodies : body ≡ length (blocks_of_kind 2 bs)) where
   abbrev later : List (List ℕ)
   later = blocks_of_kind 2 bs ++ blocks_of_kind 3 bs

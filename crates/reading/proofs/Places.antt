@@ -4,9 +4,9 @@ use Rattle.std.proofs.lemmas.Bool.{ne_eqb}
 use Rattle.std.proofs.lemmas.Bool.Decides.{nat_tests}
 use Rattle.std.proofs.lemmas.List.{drop-take, drop-drop, length-drop, length-take-le}
 use Rattle.format.specs.Faults.{Previous, kind_in, used_in, is_used_fit, is_all_zero, is_form_good, is_size_good, block_at, previous_at, fault_of}
-use Rattle.format.specs.Kinds.{number_of}
-use Rattle.format.specs.declared.kind.Kind.{Kind}
-use Rattle.format.specs.declared.kind.Kind.TheVariants.{Header, Body, End}
+use Rattle.format.specs.Kinds.{kind_number}
+use Rattle.format.specs.declared.block_kind.BlockKind.{BlockKind}
+use Rattle.format.specs.declared.block_kind.BlockKind.TheVariants.{Header, Body, End}
 use Rattle.format.proofs.BlockFields.{form_parts, used_limit}
 use Rattle.format.proofs.Sequences.{not_past_end}
 use Rattle.format.proofs.Scans.{faultless}
@@ -33,12 +33,12 @@ fill_is b rest used follows within =
     ap (take (502 - used)) past ∙ sym (drop-take (6 + used) (502 - used) b) ∙ ap (λ (n : ℕ). drop (6 + used) (take n b)) e
 
 -- a kind's number is 1 to 3
-in_range : (k : Kind) → (leb 1 (number_of k) ≡ true) × (leb (number_of k) 3 ≡ true)
+in_range : (k : BlockKind) → (leb 1 (kind_number k) ≡ true) × (leb (kind_number k) 3 ≡ true)
 in_range Header = (refl, refl)
 in_range Body = (refl, refl)
 in_range End = (refl, refl)
 
-module _ (b : List ℕ) (k : Kind) (p : Prefix) (kind : number_of k ≡ p.kind) (named : IsPrefixOf b p) where
+module _ (b : List ℕ) (k : BlockKind) (p : Prefix) (kind : kind_number k ≡ p.kind) (named : IsPrefixOf b p) where
   abbrev zeros : Bool
   zeros = is_all_zero (drop (6 + p.used) (take 508 b))
 
@@ -46,27 +46,27 @@ module _ (b : List ℕ) (k : Kind) (p : Prefix) (kind : number_of k ≡ p.kind) 
   slice = take (502 - p.used) (drop p.used p.rest.now)
 
   -- where the kind is one of three, reserve, used length and fill decide
-  form_is : is_form_good b ≡ (eqb p.reserve 0 && (is_used_fit (number_of k) p.used && zeros))
+  form_is : is_form_good b ≡ (eqb p.reserve 0 && (is_used_fit (kind_number k) p.used && zeros))
   form_is =
-      let number : kind_in b ≡ number_of k = sym (kind ∙ named.kind) in
+      let number : kind_in b ≡ kind_number k = sym (kind ∙ named.kind) in
       let reserve = sym named.reserve in
       let used = sym named.used in
       (λ i. leb 1 (number i) && (leb (number i) 3 && (eqb (reserve i) 0 && (is_used_fit (number i) (used i) && is_all_zero (drop (6 + used i) (take 508 b))))))
       ∙ grind (arith, nat_tests, (in_range k).0, (in_range k).1)
 
-  fill_read : is_used_fit (number_of k) p.used ≡ true → zeros ≡ is_all_zero slice
-  fill_read fits = ap is_all_zero (sym (fill_is b p.rest.now p.used named.rest (used_limit (number_of k) p.used fits)))
+  fill_read : is_used_fit (kind_number k) p.used ≡ true → zeros ≡ is_all_zero slice
+  fill_read fits = ap is_all_zero (sym (fill_is b p.rest.now p.used named.rest (used_limit (kind_number k) p.used fits)))
 
   pub bad_reserve : (p.reserve ≡ 0 → ⊥) → is_form_good b ≡ false
   bad_reserve some = grind (arith, nat_tests, form_is)
 
-  pub bad_used : is_used_fit (number_of k) p.used ≡ false → is_form_good b ≡ false
+  pub bad_used : is_used_fit (kind_number k) p.used ≡ false → is_form_good b ≡ false
   bad_used bad = grind (arith, nat_tests, form_is)
 
-  pub bad_fill : is_used_fit (number_of k) p.used ≡ true → is_all_zero slice ≡ false → is_form_good b ≡ false
+  pub bad_fill : is_used_fit (kind_number k) p.used ≡ true → is_all_zero slice ≡ false → is_form_good b ≡ false
   bad_fill fits bad = grind (arith, nat_tests, form_is, fill_read fits)
 
-  pub good_form : p.reserve ≡ 0 → is_used_fit (number_of k) p.used ≡ true → is_all_zero slice ≡ true → is_form_good b ≡ true
+  pub good_form : p.reserve ≡ 0 → is_used_fit (kind_number k) p.used ≡ true → is_all_zero slice ≡ true → is_form_good b ≡ true
   good_form none fits good = grind (arith, nat_tests, form_is, fill_read fits)
 
 -- nothing stands after an end block

@@ -4,7 +4,7 @@ use Rattle.std.proofs.lemmas.Bool.Decides.{nat_tests}
 use Rattle.std.proofs.lemmas.List.{drop-drop, drop_more, take_all, take_more, take_rest, length-drop, length-take, length-take-le}
 use Rattle.std.specs.Simd.{first_chunks}
 use Rattle.refusal.specs.declared.Refusal.{Refusal}
-use Rattle.format.specs.Faults.{Previous, previous, kind_in, used_in, data_in, is_size_good, rows_of, block_at, blocks_of, on_fault, fault_of, scanned, data_of}
+use Rattle.format.specs.Faults.{Previous, previous, kind_in, used_in, data_in, is_size_good, rows_of, block_at, blocks_of, on_fault, fault_of, scan_result, data_of}
 use Rattle.reading.proofs.Places.{sized}
 
 -- ---- rows
@@ -109,15 +109,15 @@ rows_all k file good within short =
 
 -- ---- scanning
 
-pub scan_on : (k : ℕ) (p : Previous) (b : List ℕ) (bs : List (List ℕ)) → fault_of k p b ≡ None → scanned k p (b ∷ bs) ≡ scanned (suc k) (previous b) bs
-scan_on k p b bs none = ap (λ o. on_fault o (scanned (suc k) (previous b) bs)) none
+pub scan_on : (k : ℕ) (p : Previous) (b : List ℕ) (bs : List (List ℕ)) → fault_of k p b ≡ None → scan_result k p (b ∷ bs) ≡ scan_result (suc k) (previous b) bs
+scan_on k p b bs none = ap (λ o. on_fault o (scan_result (suc k) (previous b) bs)) none
 
 -- a scan from block k on: past a block without fault, and no further than one with a fault
 pub scan_more : (k : ℕ) (p : Previous) (bs : List (List ℕ)) (d : List ℕ) → k < length bs → fault_of k p (get_or bs k d) ≡ None
-    → scanned k p (drop k bs) ≡ scanned (k + 1) (previous (get_or bs k d)) (drop (k + 1) bs)
+    → scan_result k p (drop k bs) ≡ scan_result (k + 1) (previous (get_or bs k d)) (drop (k + 1) bs)
 scan_more k p bs d less none =
-    ap (scanned k p) (drop_more bs k d less) ∙ scan_on k p (get_or bs k d) (drop (k + 1) bs) none
-    ∙ ap (λ (j : ℕ). scanned j (previous (get_or bs k d)) (drop (k + 1) bs)) (sym (add-one k))
+    ap (scan_result k p) (drop_more bs k d less) ∙ scan_on k p (get_or bs k d) (drop (k + 1) bs) none
+    ∙ ap (λ (j : ℕ). scan_result j (previous (get_or bs k d)) (drop (k + 1) bs)) (sym (add-one k))
 
-pub scan_ends : (k : ℕ) (p : Previous) (bs : List (List ℕ)) (d : List ℕ) (e : Refusal) → k < length bs → fault_of k p (get_or bs k d) ≡ Some e → scanned k p (drop k bs) ≡ Err e
-scan_ends k p bs d e less bad = ap (scanned k p) (drop_more bs k d less) ∙ ap (λ o. on_fault o (scanned (suc k) (previous (get_or bs k d)) (drop (k + 1) bs))) bad
+pub scan_ends : (k : ℕ) (p : Previous) (bs : List (List ℕ)) (d : List ℕ) (e : Refusal) → k < length bs → fault_of k p (get_or bs k d) ≡ Some e → scan_result k p (drop k bs) ≡ Err e
+scan_ends k p bs d e less bad = ap (scan_result k p) (drop_more bs k d less) ∙ ap (λ o. on_fault o (scan_result (suc k) (previous (get_or bs k d)) (drop (k + 1) bs))) bad

@@ -3,7 +3,7 @@ use Rattle.std.specs.Prelude.{◌≡◌, ℕ, suc, true, false, ◌*◌, ◌≤�
 use Rattle.refusal.specs.declared.Refusal.{Refusal}
 use Rattle.refusal.specs.declared.Refusal.TheVariants.{FileSize, NoEnd}
 use Rattle.format.specs.Faults.{Previous, number_in, kind_in, reserve_in, used_in, data_in, is_form_good, is_size_good, previous, block_at, previous_at, fault_of, rows_of, blocks_of, data_of}
-use Rattle.reading.specs.Shapes.{shown}
+use Rattle.reading.specs.Shapes.{previous_shape}
 use Rattle.reading.specs.declared.prefix.Prefix.{Prefix}
 use Rattle.reading.specs.declared.record.Item.{Item}
 use Rattle.reading.specs.declared.record.Record.{Record}
@@ -19,14 +19,14 @@ pub record IsPrefixOf (block : List ℕ) (prefix : Prefix) : Type 0 where
   pub rest : prefix.rest.now ≡ drop 6 block
 
 -- the shape that a block has, or none where its form is wrong
-abbrev pub Formed : List ℕ → Option Shape → Type 0
-Formed b None = is_form_good b ≡ false
-Formed b (Some s) = (is_form_good b ≡ true) × (shown s ≡ previous b)
+abbrev pub MatchesForm : List ℕ → Option Shape → Type 0
+MatchesForm b None = is_form_good b ≡ false
+MatchesForm b (Some s) = (is_form_good b ≡ true) × (previous_shape s ≡ previous b)
 
 -- the shape of block k, which stands after p, or its first fault
-abbrev pub Checked : ℕ → Previous → List ℕ → Result Shape Refusal → Type 0
-Checked k p b (Ok s) = (fault_of k p b ≡ None) × (shown s ≡ previous b)
-Checked k p b (Err e) = fault_of k p b ≡ Some e
+abbrev pub ChecksBlock : ℕ → Previous → List ℕ → Result Shape Refusal → Type 0
+ChecksBlock k p b (Ok s) = (fault_of k p b ≡ None) × (previous_shape s ≡ previous b)
+ChecksBlock k p b (Err e) = fault_of k p b ≡ Some e
 
 abbrev pub kind_of : Record → ℕ
 kind_of (Header piece) = 1
@@ -39,13 +39,13 @@ data_held (Body piece) = piece.now
 data_held (End piece) = piece.now
 
 -- the record of the first block, and what follows that block
-pub record Parsed (left : List ℕ) (r : Record) (rest : List ℕ) : Type 0 where
+pub record ParsesRecord (left : List ℕ) (r : Record) (rest : List ℕ) : Type 0 where
   pub kind : kind_of r ≡ kind_in (take 512 left)
   pub bytes : data_held r ≡ data_in (take 512 left)
   pub after : rest ≡ drop 512 left
 
 -- the record of block k, and the file from the next block on
-pub record Taken (file : List ℕ) (k : ℕ) (i : Item) : Type 0 where
+pub record IsItemOf (file : List ℕ) (k : ℕ) (i : Item) : Type 0 where
   pub kind : kind_of i.record ≡ kind_in (block_at file k)
   pub bytes : data_held i.record ≡ data_in (block_at file k)
   pub after : i.rest.now ≡ drop (512 * suc k) file
@@ -60,10 +60,10 @@ wrong_at file k =
     (Some FileSize)
 
 -- One call of a reader that has read k blocks, and then has read t.
-abbrev pub Read : List ℕ → ℕ → ℕ → Result (Option Item) Refusal → Type 0
-Read file k t (Ok None) = (wrong_at file k ≡ None) × (512 * k ≡ length file) × (t ≡ k)
-Read file k t (Ok (Some i)) = (wrong_at file k ≡ None) × (512 * suc k ≤ length file) × Taken file k i × (t ≡ suc k)
-Read file k t (Err e) = (wrong_at file k ≡ Some e) × (t ≡ k)
+abbrev pub ReadsBlock : List ℕ → ℕ → ℕ → Result (Option Item) Refusal → Type 0
+ReadsBlock file k t (Ok None) = (wrong_at file k ≡ None) × (512 * k ≡ length file) × (t ≡ k)
+ReadsBlock file k t (Ok (Some i)) = (wrong_at file k ≡ None) × (512 * suc k ≤ length file) × IsItemOf file k i × (t ≡ suc k)
+ReadsBlock file k t (Err e) = (wrong_at file k ≡ Some e) × (t ≡ k)
 
 -- what a record adds to the part of a kind
 abbrev pub piece_for : ℕ → Record → List ℕ
@@ -80,7 +80,7 @@ IsNextPiece kind file k r =
 
 -- One call of a reader that has read k blocks: the record adds to both parts what block k does; and where there is no record, the first
 -- k blocks are all that the file has. A refusal says nothing of the data.
-abbrev pub Joins : List ℕ → ℕ → Result (Option Item) Refusal → Type 0
-Joins file k (Ok None) = rows_of k file ≡ blocks_of file
-Joins file k (Ok (Some i)) = IsNextPiece 1 file k i.record × IsNextPiece 2 file k i.record
-Joins file k (Err e) = Unit {0}
+abbrev pub AddsToParts : List ℕ → ℕ → Result (Option Item) Refusal → Type 0
+AddsToParts file k (Ok None) = rows_of k file ≡ blocks_of file
+AddsToParts file k (Ok (Some i)) = IsNextPiece 1 file k i.record × IsNextPiece 2 file k i.record
+AddsToParts file k (Err e) = Unit {0}

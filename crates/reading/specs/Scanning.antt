@@ -1,8 +1,8 @@
 -- What a scan of a file's blocks goes through.
 use Rattle.std.specs.Prelude.{◌≡◌, ℕ, ◌+◌, cond, List, length, filter, Some, Ok, Err, Result, ◌==◌}
 use Rattle.refusal.specs.declared.Refusal.{Refusal}
-use Rattle.format.specs.Faults.{first, kind_in, scanned, data_of}
-use Rattle.format.specs.Kinds.{number_of}
+use Rattle.format.specs.Faults.{first, kind_in, scan_result, data_of}
+use Rattle.format.specs.Kinds.{kind_number}
 use Rattle.reading.specs.Shapes.{previous_of}
 use Rattle.reading.specs.declared.scanning.Scan.{Scan}
 use Rattle.reading.specs.declared.scanning.Tally.{Tally}
@@ -16,8 +16,8 @@ tally_with t used = record { blocks = t.blocks + 1; bytes = t.bytes + used }
 abbrev pub scan_after : Scan → Shape → Scan
 scan_after s b = record {
   last = Some b;
-  header = cond (number_of b.kind == 1) (tally_with s.header b.used) s.header;
-  body = cond (number_of b.kind == 2) (tally_with s.body b.used) s.body;
+  header = cond (kind_number b.kind == 1) (tally_with s.header b.used) s.header;
+  body = cond (kind_number b.kind == 2) (tally_with s.body b.used) s.body;
 }
 
 -- the blocks of a kind
@@ -30,7 +30,7 @@ pub record IsTallyOf (kind : ℕ) (bs : List (List ℕ)) (t : Tally) : Type 0 wh
   pub bytes : t.bytes ≡ length (data_of kind bs)
 
 -- what all blocks say, or the first fault
-abbrev pub Scanned : List (List ℕ) → Result Scan Refusal → Type 0
-Scanned bs (Ok s) =
-    (scanned 0 first bs ≡ Ok (previous_of s.last)) × IsTallyOf 1 bs s.header × IsTallyOf 2 bs s.body
-Scanned bs (Err e) = scanned 0 first bs ≡ Err e
+abbrev pub ScansBlocks : List (List ℕ) → Result Scan Refusal → Type 0
+ScansBlocks bs (Ok s) =
+    (scan_result 0 first bs ≡ Ok (previous_of s.last)) × IsTallyOf 1 bs s.header × IsTallyOf 2 bs s.body
+ScansBlocks bs (Err e) = scan_result 0 first bs ≡ Err e

@@ -1,13 +1,13 @@
 // What can be wrong with a file's size, and with a block.
 ghost use Rattle.std.specs.Prelude.{◌≡◌, ℕ, List, length, nat_eq};
 ghost use Rattle.format.specs.Faults.{is_all_zero, check_in, is_order_good, is_size_good, is_used_fit};
-ghost use Rattle.format.specs.Kinds.{number_of};
-ghost use Rattle.reading.specs.Reading.{Checked, Formed, IsPrefixOf};
-ghost use Rattle.reading.specs.Shapes.{previous_of, shown};
+ghost use Rattle.format.specs.Kinds.{kind_number};
+ghost use Rattle.reading.specs.Reading.{ChecksBlock, MatchesForm, IsPrefixOf};
+ghost use Rattle.reading.specs.Shapes.{previous_of, previous_shape};
 
 use crate::prefix::Prefix;
 use crate::shape::Shape;
-use format::{BLOCK_BYTES, CHECK_AT, DATA_BYTES, Kind, LARGEST_FILE, block_check};
+use format::{BLOCK_BYTES, CHECK_AT, DATA_BYTES, BlockKind, LARGEST_FILE, block_check};
 use refusal::Refusal;
 
 pub(crate) fn size_good(file: &[u8]) -> bool
@@ -23,27 +23,27 @@ fn all_zero(bytes: &[u8]) -> bool
 }
 
 // The end block has 16 bytes of data, every other 1 to 502.
-fn used_fits(kind: Kind, used: usize) -> bool
-    ensures { result ≡ is_used_fit (number_of kind) used }
+fn used_fits(kind: BlockKind, used: usize) -> bool
+    ensures { result ≡ is_used_fit (kind_number kind) used }
 {
     match kind {
-        Kind::Header | Kind::Body => 1 <= used && used <= DATA_BYTES,
-        Kind::End => used == 16,
+        BlockKind::Header | BlockKind::Body => 1 <= used && used <= DATA_BYTES,
+        BlockKind::End => used == 16,
     }
 }
 
 impl Shape {
     pub(crate) fn is_end(self) -> bool
-        ensures { result ≡ nat_eq (number_of self.kind) 3 }
+        ensures { result ≡ nat_eq (kind_number self.kind) 3 }
     {
-        self.kind == Kind::End
+        self.kind == BlockKind::End
     }
 
     // Nothing stands after the end, no kind after a later one, and only a full block before one of its kind.
-    fn may_precede(self, kind: Kind) -> bool
-        ensures { result ≡ is_order_good (shown self) (number_of kind) }
+    fn may_precede(self, kind: BlockKind) -> bool
+        ensures { result ≡ is_order_good (previous_shape self) (kind_number kind) }
     {
-        self.kind != Kind::End
+        self.kind != BlockKind::End
             && self.kind <= kind
             && (self.kind != kind || DATA_BYTES <= self.used)
     }
@@ -52,9 +52,9 @@ impl Shape {
 // The shape of a block of good form, and none of another.
 fn shape_of(prefix: Prefix) -> Option<Shape>
     requires whole { length prefix.rest.now ≡ 506 }
-    ensures { (block : List ℕ) → IsPrefixOf block prefix.entry → Formed block result }
+    ensures { (block : List ℕ) → IsPrefixOf block prefix.entry → MatchesForm block result }
 {
-    let kind = Kind::try_from(prefix.kind).ok()?;
+    let kind = BlockKind::try_from(prefix.kind).ok()?;
     let used = prefix.used;
     if prefix.reserve != 0 || !used_fits(kind, used) || !all_zero(&prefix.rest[used..DATA_BYTES]) {
         return None;
@@ -76,7 +76,7 @@ pub(crate) fn check_block(
     place: u32,
     before: Option<Shape>,
 ) -> Result<Shape, Refusal>
-    ensures { Checked place (previous_of before) block.now result }
+    ensures { ChecksBlock place (previous_of before) block.now result }
 {
     let prefix = Prefix::read(block);
     if stored_check(block) != block_check(&block[..CHECK_AT]) {

@@ -1,15 +1,15 @@
 // A file read record by record.
 ghost use Rattle.std.specs.Prelude.{◌≡◌, ◌*◌, ◌≤◌, length, take};
 ghost use Rattle.format.specs.Faults.{previous, previous_at};
-ghost use Rattle.format.specs.Kinds.{number_of};
-ghost use Rattle.reading.specs.Reading.{Joins, Parsed, Read, data_held, kind_of};
-ghost use Rattle.reading.specs.Shapes.{previous_of, shown};
+ghost use Rattle.format.specs.Kinds.{kind_number};
+ghost use Rattle.reading.specs.Reading.{AddsToParts, ParsesRecord, ReadsBlock, data_held, kind_of};
+ghost use Rattle.reading.specs.Shapes.{previous_of, previous_shape};
 
 use crate::faults::{check_block, size_good};
 use crate::prefix::Prefix;
 use crate::record::{Item, Record};
 use crate::shape::Shape;
-use format::{BLOCK_BYTES, Kind};
+use format::{BLOCK_BYTES, BlockKind};
 use refusal::Refusal;
 
 /// A window on a file, moved from block to block. It answers a refusal again at every later call, so its `next` is a method of its own:
@@ -27,14 +27,14 @@ pub struct Reader<'a> {
 }
 
 // The record of a block of this kind, with its data.
-fn record_of<'a>(kind: Kind, data: &'a [u8]) -> Record<'a>
-    ensures kind { kind_of result ≡ number_of kind }
+fn record_of<'a>(kind: BlockKind, data: &'a [u8]) -> Record<'a>
+    ensures kind { kind_of result ≡ kind_number kind }
     ensures bytes { data_held result ≡ «data».now }
 {
     match kind {
-        Kind::Header => Record::Header(data),
-        Kind::Body => Record::Body(data),
-        Kind::End => Record::End(data),
+        BlockKind::Header => Record::Header(data),
+        BlockKind::Body => Record::Body(data),
+        BlockKind::End => Record::End(data),
     }
 }
 
@@ -42,8 +42,8 @@ fn record_of<'a>(kind: Kind, data: &'a [u8]) -> Record<'a>
 // A bare pair, as a parser answers: what was read, and what is left.
 fn parse<'a>(left: &'a [u8], shape: Shape) -> (Record<'a>, &'a [u8])
     requires long { 512 ≤ length left.now }
-    requires shape { shown shape ≡ previous (take 512 left.now) }
-    ensures { Parsed left.now result.0 result.1.now }
+    requires shape { previous_shape shape ≡ previous (take 512 left.now) }
+    ensures { ParsesRecord left.now result.0 result.1.now }
 {
     let Some((block, rest)) = left.split_first_chunk::<BLOCK_BYTES>() else {
         unreachable!()
@@ -67,8 +67,8 @@ impl<'a> Reader<'a> {
     #[tactic(auto, using(crate::proofs::Scans::rows_all))]
     pub fn next(&mut self) -> Result<Option<Item<'a>>, Refusal>
         ensures file { self.new.file.now ≡ self.old.file.now }
-        ensures read { Read self.old.file.now self.old.place self.new.place result }
-        ensures joins { Joins self.old.file.now self.old.place result }
+        ensures read { ReadsBlock self.old.file.now self.old.place self.new.place result }
+        ensures joins { AddsToParts self.old.file.now self.old.place result }
     {
         let file = self.file;
         let place = self.place;

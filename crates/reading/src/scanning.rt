@@ -1,11 +1,11 @@
 // A file gone through block by block.
 ghost use Rattle.std.specs.Prelude.{◌≡◌, ◌≤◌, length, nat_eq};
-ghost use Rattle.reading.specs.Scanning.{Scanned, scan_after, tally_with};
+ghost use Rattle.reading.specs.Scanning.{ScansBlocks, scan_after, tally_with};
 ghost use Rattle.reading.specs.Shapes.{previous_of};
 
 use crate::faults::check_block;
 use crate::shape::Shape;
-use format::{BLOCK_BYTES, Kind};
+use format::{BLOCK_BYTES, BlockKind};
 use refusal::Refusal;
 
 /// How much of a part was gone through.
@@ -46,9 +46,9 @@ impl Scan {
     {
         self.last = Some(block);
         match block.kind {
-            Kind::Header => self.header.add(block.used),
-            Kind::Body => self.body.add(block.used),
-            Kind::End => {}
+            BlockKind::Header => self.header.add(block.used),
+            BlockKind::Body => self.body.add(block.used),
+            BlockKind::End => {}
         }
     }
 
@@ -63,7 +63,7 @@ impl Scan {
 /// What all blocks say, or the first fault.
 pub(crate) fn scan_blocks(blocks: &[[u8; BLOCK_BYTES]]) -> Result<Scan, Refusal>
     requires { length blocks.now ≤ 65536 }
-    ensures { Scanned blocks.now result }
+    ensures { ScansBlocks blocks.now result }
 {
     let none = Tally {
         blocks: 0,

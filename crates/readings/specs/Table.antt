@@ -2,8 +2,8 @@
 use Rattle.std.specs.Prelude.{◌≡◌, ℕ, List, [], ◌∷◌, ◌++◌, replicate, Ok, Err, Result}
 use Rattle.field.specs.Bytes.{block_of}
 use Rattle.field.specs.Evaluation.{eval, power}
-use Rattle.field.specs.Kinds.{nibble, word, nibble_kind, block_ring, nibble_ring, word_ring}
-use Rattle.field.specs.declared.kinds.Block.{Block}
+use Rattle.field.specs.Kinds.{nibble, word, nibble_shape, block_ring, nibble_ring, word_ring}
+use Rattle.field.specs.declared.block.Block.{Block}
 use Rattle.message.specs.Hash.{hash_of, tag_of}
 use Rattle.message.specs.declared.digest.Digest.{Digest}
 use Rattle.polynomial.specs.Bits.{bit_in}
@@ -31,9 +31,9 @@ pub record Table : Type 0 where
   pub word_two_row : eval word_ring (word 16807) (word 1 ∷ (word 0 ∷ [])) ≡ word 282475249
   pub block_value_row : eval block_ring (first 0x40) (last 0x01 ∷ []) ≡ first 0xE1
   -- t^4 + t^2 + 1 and t^4 + t^3 + t^2 annihilate the nibble 0110, and t^4 + t + 1 does not
-  pub first_proposal_row : Annihilates nibble_ring 4 (bit_in nibble_kind 0b0101) (nibble 0b0110)
-  pub second_proposal_row : Annihilates nibble_ring 4 (bit_in nibble_kind 0b1100) (nibble 0b0110)
-  pub third_proposal_row : Annihilates nibble_ring 4 (bit_in nibble_kind 0b0011) (nibble 0b0110) → ⊥
+  pub first_proposal_row : Annihilates nibble_ring 4 (bit_in nibble_shape 0b0101) (nibble 0b0110)
+  pub second_proposal_row : Annihilates nibble_ring 4 (bit_in nibble_shape 0b1100) (nibble 0b0110)
+  pub third_proposal_row : Annihilates nibble_ring 4 (bit_in nibble_shape 0b0011) (nibble 0b0110) → ⊥
   -- the product for the nibble 1000 is t^4 + t^3 + t^2 + t + 1
   pub made_product_row : conjugates nibble_ring (nibble 0b1000) 4 ≡ replicate 5 (nibble 0b0001)
   -- an empty header and an empty body, at any subkey and under any pad
@@ -43,8 +43,8 @@ pub record Table : Type 0 where
   pub header_only_row : hash_of (first 0x80) (0x80 ∷ []) [] ≡ block_of (0x80 ∷ zeros 6 ++ (0x08 ∷ zeros 8))
 
 -- the same readings, as the calls answer them
-abbrev pub expected : Block → Readings
-expected pad = record {
+abbrev pub table_readings : Block → Readings
+table_readings pad = record {
   nibble_product = nibble 0b1010;
   nibble_value = nibble 0b0110;
   word_one = word 16807;

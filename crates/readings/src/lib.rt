@@ -3,8 +3,8 @@
 
 ghost use Rattle.std.specs.Prelude.{◌≡◌, Ok};
 ghost use Rattle.field.specs.Kinds.{nibble, word};
-ghost use Rattle.message.specs.Answer.{answer};
-ghost use Rattle.readings.specs.Table.{Table, expected, first, hash_in};
+ghost use Rattle.message.specs.Answer.{digest_answer};
+ghost use Rattle.readings.specs.Table.{Table, table_readings, first, hash_in};
 
 use field::{Block, Element, Nibble, Word, evaluate};
 use message::Message;
@@ -64,7 +64,7 @@ fn block_value() -> Block
 
 // The hash at the subkey 80 00..00, which is one.
 fn hash_at_one(message: Message) -> Result<Block, Refusal>
-    ensures { result ≡ hash_in (answer (first 0x80) (first 0x80) message.entry.header.now message.entry.body.now) }
+    ensures { result ≡ hash_in (digest_answer (first 0x80) (first 0x80) message.entry.header.now message.entry.body.now) }
 {
     let one = Block::one();
     Ok(message.hash_and_tag(one, one)?.hash)
@@ -73,7 +73,7 @@ fn hash_at_one(message: Message) -> Result<Block, Refusal>
 // The table; the empty message's rows hold at any subkey and under any pad, which come apart as in the calls that are read.
 pub fn take_readings(subkey: Block, pad: Block) -> Result<Readings, Refusal>
     ensures table { Table }
-    ensures value { result ≡ Ok (expected pad) }
+    ensures value { result ≡ Ok (table_readings pad) }
 {
     let empty = Message {
         header: &[],

@@ -2,7 +2,7 @@
 #![tactic(auto)]
 
 ghost use Rattle.std.specs.Prelude.{◌≡◌, Some};
-ghost use Rattle.refusal.specs.Refusals.{line_of, number_of, place_of, text_of};
+ghost use Rattle.refusal.specs.Refusals.{refusal_line, refusal_number, refusal_place, refusal_text};
 
 use std::error::Error;
 use std::fmt;
@@ -43,7 +43,7 @@ pub enum Refusal {
 impl Refusal {
     // The number that users and other programs know the refusal by. No From, since the name says which number is meant.
     pub fn number(self) -> u8
-        ensures { result ≡ number_of self }
+        ensures { result ≡ refusal_number self }
     {
         match self {
             Refusal::HeaderTooLong => 1,
@@ -66,7 +66,7 @@ impl Refusal {
 
     // The cause alone, which `Display` puts after number and place. No derive: the words are pinned to a definition.
     pub fn text(self) -> &'static str
-        ensures { result.now ≡ text_of self }
+        ensures { result.now ≡ refusal_text self }
     {
         match self {
             Refusal::HeaderTooLong => "header over its limit",
@@ -89,7 +89,7 @@ impl Refusal {
 
     // The block that is named, from 0, or the count of blocks where the end is missing. No derive: only some causes have one.
     pub fn place(self) -> Option<u32>
-        ensures { result ≡ place_of self }
+        ensures { result ≡ refusal_place self }
     {
         match self {
             Refusal::WrongCheck { block }
@@ -104,7 +104,7 @@ impl Refusal {
 
 // One line: the number, the place if there is one, and the text.
 impl fmt::Display for Refusal {
-    ghost output = { λ refusal. Some (line_of refusal) };
+    ghost output = { λ refusal. Some (refusal_line refusal) };
 
     fn fmt<W: fmt::Write>(&self, f: &mut fmt::Formatter<W>) -> fmt::Result {
         let number = self.number();

@@ -1,17 +1,17 @@
 -- What a writer answers, and what stands in its output then.
 use Rattle.std.specs.Prelude.{◌≡◌, ℕ, ◌*◌, ◌≤◌, cond, List, ◌++◌, length, drop, Ok, Err, Result, MatchResult, nat_le}
 use Rattle.field.specs.Bytes.{bytes_of}
-use Rattle.field.specs.declared.kinds.Block.{Block}
+use Rattle.field.specs.declared.block.Block.{Block}
 use Rattle.message.specs.Limits.{header_limit}
 use Rattle.message.specs.Hash.{hash_of, tag_of}
-use Rattle.message.specs.declared.part.Message.{Message}
+use Rattle.message.specs.declared.message.Message.{Message}
 use Rattle.engine.specs.declared.engine.Engine.{Ghosts}
 use Rattle.refusal.specs.declared.Refusal.{Refusal}
 use Rattle.refusal.specs.declared.Refusal.TheVariants.{HeaderTooLong, FileSize, OutputTooShort}
-use Rattle.format.specs.Layout.{blocks_for, contents, laid}
+use Rattle.format.specs.Layout.{blocks_for, contents, numbered_blocks}
 use Rattle.format.specs.Verdict.{after}
-use Rattle.tag.specs.Tags.{Ran}
-use Rattle.sealed.specs.declared.handed.Sealed.{Sealed}
+use Rattle.tag.specs.Tags.{HashesMessage}
+use Rattle.sealed.specs.declared.sealed.Sealed.{Sealed}
 
 -- by lengths: the header's limit, the most blocks of a file, and the output's room; else the count of blocks
 abbrev pub room_answer : ℕ → ℕ → ℕ → Result ℕ Refusal
@@ -33,8 +33,8 @@ abbrev pub answer_for : Block → Block → Message → ℕ → Result Sealed Re
 answer_for subkey pad m room = seal_answer subkey pad m.header.now m.body.now room
 
 -- The engine hashed the message where there is a file, and was not touched where there is a refusal.
-abbrev pub RanIfSealed : {E : Type 0} → Ghosts E → E → Message → E → Result Sealed Refusal → Type 0
-RanIfSealed g e m f answer = MatchResult answer (λ _. Ran g e m.header.now m.body.now f) (λ _. f ≡ e)
+abbrev pub HashesIfSealed : {E : Type 0} → Ghosts E → E → Message → E → Result Sealed Refusal → Type 0
+HashesIfSealed g e m f answer = MatchResult answer (λ _. HashesMessage g e m.header.now m.body.now f) (λ _. f ≡ e)
 
 -- The file of a message has no more blocks than there are numbers for, and fits this many bytes.
 pub record HasRoom (m : Message) (room : ℕ) : Type 0 where
@@ -43,7 +43,7 @@ pub record HasRoom (m : Message) (room : ℕ) : Type 0 where
 
 -- a message and its tag, block after block
 abbrev pub file_of : Message → Block → List ℕ
-file_of m tag = laid 0 (contents m.header.now m.body.now (bytes_of tag))
+file_of m tag = numbered_blocks 0 (contents m.header.now m.body.now (bytes_of tag))
 
 -- A file was written at the front of a row, and the rest of the row is as before.
 abbrev pub StandsInFront : List ℕ → List ℕ → List ℕ → Type 0

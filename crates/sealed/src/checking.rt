@@ -7,7 +7,7 @@ ghost use Rattle.reading.specs.Sections.{IsCutOf, lengths_answer};
 ghost use Rattle.refusal.specs.declared.Refusal.TheVariants.{TagDiffers};
 ghost use Rattle.sealed.specs.Checking.{EngineAfter};
 
-use crate::handed::{Checked, Handed};
+use crate::with_engine::{Checked, WithEngine};
 use crate::hashing::hash_sections;
 use engine::Engine;
 use field::Block;
@@ -60,7 +60,7 @@ pub fn check_file<E: Engine>(engine: E, pad: Block, file: &[u8]) -> Checked<E>
     let sections = match first_pass(file) {
         Ok(sections) => sections,
         Err(refusal) => {
-            return Handed {
+            return WithEngine {
                 engine,
                 answer: Err(refusal),
             };
@@ -77,7 +77,7 @@ pub fn check_file<E: Engine>(engine: E, pad: Block, file: &[u8]) -> Checked<E>
         hash: _,
         tag,
     } = hash_sections(engine, pad, header, body);
-    Handed {
+    WithEngine {
         engine,
         answer: compare_tags(stored_tag(stored), tag, lengths),
     }

@@ -1,20 +1,20 @@
 // Blocks laid into an output.
 ghost use Rattle.std.specs.Prelude.{◌≡◌, ◌+◌, ◌*◌, ◌/◌, ◌<◌, ◌≤◌, ◌++◌, map, length, take, drop};
-ghost use Rattle.format.specs.Layout.{block_bytes, content, laid, pieces};
-ghost use Rattle.format.specs.Kinds.{number_of};
+ghost use Rattle.format.specs.Layout.{block_bytes, content, numbered_blocks, data_pieces};
+ghost use Rattle.format.specs.Kinds.{kind_number};
 ghost use Rattle.sealed.specs.Writing.{file_of, HasRoom, StandsInFront};
 
 use field::Block;
-use format::{BLOCK_BYTES, CHECK_AT, DATA_AT, DATA_BYTES, Kind, block_check};
+use format::{BLOCK_BYTES, CHECK_AT, DATA_AT, DATA_BYTES, BlockKind, block_check};
 use message::Message;
 
 // One block: prefix, data, zeros up to the check, and the check.
 // A slice, not `&mut [u8; 512]`: tried, and what `first_chunk_mut` hands back to the output did not prove in `put_block`.
-fn fill_block(block: &mut [u8], number: u32, kind: Kind, data: &[u8])
+fn fill_block(block: &mut [u8], number: u32, kind: BlockKind, data: &[u8])
     requires whole { length block.old ≡ 512 }
     requires few { number < 65536 }
     requires fits { length «data».now ≤ 502 }
-    ensures { block.new ≡ block_bytes number (content (number_of kind) «data».now) }
+    ensures { block.new ≡ block_bytes number (content (kind_number kind) «data».now) }
 {
     let [n1, n0] = (number as u16).to_be_bytes();
     let [u1, u0] = (data.len() as u16).to_be_bytes();
@@ -27,11 +27,11 @@ fn fill_block(block: &mut [u8], number: u32, kind: Kind, data: &[u8])
 }
 
 // A block at its place in the output.
-fn put_block(output: &mut [u8], number: u32, kind: Kind, data: &[u8])
+fn put_block(output: &mut [u8], number: u32, kind: BlockKind, data: &[u8])
     requires room { 512 * (number + 1) ≤ length output.old }
     requires few { number < 65536 }
     requires fits { length «data».now ≤ 502 }
-    ensures front { take (512 * (number + 1)) output.new ≡ take (512 * number) output.old ++ block_bytes number (content (number_of kind) «data».now) }
+    ensures front { take (512 * (number + 1)) output.new ≡ take (512 * number) output.old ++ block_bytes number (content (kind_number kind) «data».now) }
     ensures back { drop (512 * (number + 1)) output.new ≡ drop (512 * (number + 1)) output.old }
 {
     let start = BLOCK_BYTES * number as usize;
@@ -39,11 +39,11 @@ fn put_block(output: &mut [u8], number: u32, kind: Kind, data: &[u8])
 }
 
 // The blocks of a part, one for each piece, from a number on; the answer is the next number.
-fn put_part(output: &mut [u8], first: u32, kind: Kind, part: &[u8]) -> u32
+fn put_part(output: &mut [u8], first: u32, kind: BlockKind, part: &[u8]) -> u32
     requires room { 512 * (first + (length part.now + 501) / 502) ≤ length output.old }
     requires few { first + (length part.now + 501) / 502 ≤ 65536 }
     ensures next { result ≡ first + (length part.now + 501) / 502 }
-    ensures front { take (512 * result) output.new ≡ take (512 * first) output.old ++ laid first (map (content (number_of kind)) (pieces part.now)) }
+    ensures front { take (512 * result) output.new ≡ take (512 * first) output.old ++ numbered_blocks first (map (content (kind_number kind)) (data_pieces part.now)) }
     ensures back { drop (512 * result) output.new ≡ drop (512 * result) output.old }
 {
     for (k, piece) in part.chunks(DATA_BYTES).enumerate() {
@@ -57,7 +57,7 @@ pub(crate) fn put_file(output: &mut [u8], message: Message, tag: Block)
     requires { HasRoom message (length output.old) }
     ensures { StandsInFront (file_of message.entry tag) output.old output.new }
 {
-    let next = put_part(output, 0, Kind::Header, message.header);
-    let next = put_part(output, next, Kind::Body, message.body);
-    put_block(output, next, Kind::End, &tag.to_bytes());
+    let next = put_part(output, 0, BlockKind::Header, message.header);
+    let next = put_part(output, next, BlockKind::Body, message.body);
+    put_block(output, next, BlockKind::End, &tag.to_bytes());
 }

@@ -3,11 +3,11 @@
 
 mod checking;
 mod feeding;
-mod handed;
+mod with_engine;
 mod hashing;
 mod laying;
 mod writing;
 
 pub use checking::check_file;
-pub use handed::{Checked, Handed, Sealed, Written};
+pub use with_engine::{Checked, WithEngine, Sealed, Written};
 pub use writing::write_file;

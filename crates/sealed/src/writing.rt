@@ -1,11 +1,11 @@
 // A whole file, written at the front of an output.
 ghost use Rattle.std.specs.Prelude.{◌≡◌, ◌++◌, length, drop, MatchResult, OnOk};
-ghost use Rattle.format.specs.Layout.{sealed};
+ghost use Rattle.format.specs.Layout.{sealed_file};
 ghost use Rattle.format.specs.Verdict.{Reopens};
-ghost use Rattle.tag.specs.Tags.{Ran};
-ghost use Rattle.sealed.specs.Writing.{answer_for, room_answer, seal_answer, RanIfSealed};
+ghost use Rattle.tag.specs.Tags.{HashesMessage};
+ghost use Rattle.sealed.specs.Writing.{answer_for, room_answer, seal_answer, HashesIfSealed};
 
-use crate::handed::{Handed, Sealed, Written};
+use crate::with_engine::{WithEngine, Sealed, Written};
 use crate::laying::put_file;
 use engine::Engine;
 use field::Block;
@@ -39,7 +39,7 @@ fn hash_for_file<E: Engine>(
     room: usize,
 ) -> Result<Sealed, Refusal>
     ensures answer { result ≡ answer_for (E.subkey_of engine.old) pad message.entry room }
-    ensures engine { RanIfSealed E.Engine engine.old message.entry engine.new result }
+    ensures engine { HashesIfSealed E.Engine engine.old message.entry engine.new result }
 {
     let count = count_blocks(message.header.len(), message.body.len(), room)?;
     // The limits of a message are looked at again here and never refuse: a file holds less than they allow.
@@ -59,14 +59,14 @@ pub fn write_file<E: Engine>(
     output: &mut [u8],
 ) -> Written<E>
     ensures answer { result.answer ≡ seal_answer (E.subkey_of engine) pad message.entry.header.now message.entry.body.now (length output.old) }
-    ensures output { MatchResult result.answer (λ _. output.new ≡ sealed (E.subkey_of engine) pad message.entry.header.now message.entry.body.now ++ drop (length (sealed (E.subkey_of engine) pad message.entry.header.now message.entry.body.now)) output.old) (λ _. output.new ≡ output.old) }
+    ensures output { MatchResult result.answer (λ _. output.new ≡ sealed_file (E.subkey_of engine) pad message.entry.header.now message.entry.body.now ++ drop (length (sealed_file (E.subkey_of engine) pad message.entry.header.now message.entry.body.now)) output.old) (λ _. output.new ≡ output.old) }
     ensures reopens { OnOk result.answer (Reopens (E.subkey_of engine) pad message.entry.header.now message.entry.body.now) }
-    ensures engine { MatchResult result.answer (λ _. Ran E.Engine engine message.entry.header.now message.entry.body.now result.engine) (λ _. result.engine ≡ engine) }
+    ensures engine { MatchResult result.answer (λ _. HashesMessage E.Engine engine message.entry.header.now message.entry.body.now result.engine) (λ _. result.engine ≡ engine) }
 {
     let mut engine = engine;
     let answer = hash_for_file(&mut engine, pad, message, output.len());
     if let Ok(sealed) = answer {
         put_file(output, message, sealed.tag);
     }
-    Handed { engine, answer }
+    WithEngine { engine, answer }
 }

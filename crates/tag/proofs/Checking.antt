@@ -3,8 +3,8 @@ use Rattle.std.proofs.Common.{◌≡◌, ℕ, ◌≤◌, Bool, cond, ◌&&◌, L
 use Rattle.std.specs.Str.{bytes_eq}
 use Rattle.std.proofs.lemmas.Bool.{cond-true}
 use Rattle.field.specs.Bytes.{bytes_of}
-use Rattle.field.specs.declared.kinds.Block.{Block}
-use Rattle.message.specs.Answer.{answer, digest_of}
+use Rattle.field.specs.declared.block.Block.{Block}
+use Rattle.message.specs.Answer.{digest_answer, digest_of}
 use Rattle.message.specs.Hash.{tag_of}
 use Rattle.message.specs.Limits.{within_limits}
 use Rattle.message.specs.declared.digest.Digest.{Digest}
@@ -18,7 +18,7 @@ module _ (subkey pad : Block) (header body given : List ℕ) (low : 4 ≤ length
   compared same = cond same (Ok tt) (Err TagDiffers)
 
   -- a given tag of a right length: the message's answer, and then the comparison
-  pub checked : (r : Result Digest Refusal) (same : Bool) → r ≡ answer subkey pad header body → same ≡ begins_tag (tag_of subkey pad header body) given
+  pub checked : (r : Result Digest Refusal) (same : Bool) → r ≡ digest_answer subkey pad header body → same ≡ begins_tag (tag_of subkey pad header body) given
       → go_on (compared same) r ≡ check_answer subkey pad header body given
   checked r same said looked =
       after_lengths (compared same) header body (digest_of subkey pad header body) r said
@@ -26,7 +26,7 @@ module _ (subkey pad : Block) (header body given : List ℕ) (low : 4 ≤ length
       ∙ sym (cond-true _ _ _ (ap₂ ◌&&◌ (le-leb 4 (length given) low) (le-leb (length given) 16 high)))
 
   -- the bytes compared were those of the message's tag
-  pub compared_with : (t : Digest) (bytes : List ℕ) (same : Bool) → Ok t ≡ answer subkey pad header body → bytes ≡ bytes_of t.tag
+  pub compared_with : (t : Digest) (bytes : List ℕ) (same : Bool) → Ok t ≡ digest_answer subkey pad header body → bytes ≡ bytes_of t.tag
       → same ≡ bytes_eq given (take (length given) bytes) → compared same ≡ check_answer subkey pad header body given
   compared_with t bytes same said read looked =
       checked (Ok t) same said

@@ -3,13 +3,13 @@ use Rattle.std.specs.Prelude.{◌≡◌, ℕ, Bool, cond, ◌&&◌, List, ◌∷
 use Rattle.std.specs.Str.{bytes_eq}
 use Rattle.field.specs.Bytes.{bytes_of}
 use Rattle.field.specs.Kinds.{block_ring}
-use Rattle.field.specs.declared.kinds.Block.{Block}
+use Rattle.field.specs.declared.block.Block.{Block}
 use Rattle.message.specs.Blocks.{block_list}
 use Rattle.message.specs.Hash.{hash_of, tag_of}
 use Rattle.message.specs.Limits.{within_limits}
 use Rattle.engine.specs.Chain.{resume, absorb, Chain}
 use Rattle.engine.specs.declared.engine.Engine.{Ghosts}
-use Rattle.refusal.specs.Refusals.{number_of}
+use Rattle.refusal.specs.Refusals.{refusal_number}
 use Rattle.refusal.specs.declared.Refusal.{Refusal}
 use Rattle.refusal.specs.declared.Refusal.TheVariants.{TagLength, TagDiffers}
 
@@ -30,13 +30,13 @@ check_answer subkey pad header body given =
 
 module _ {E : Type 0} (m : Ghosts E) where
   -- From zero, one absorb for each block of the block list and nothing else: T is the hash, H and ready are as before.
-  pub record Ran (e : E) (header body : List ℕ) (f : E) : Type 0 where
+  pub record HashesMessage (e : E) (header body : List ℕ) (f : E) : Type 0 where
     pub value : m.value_of f ≡ hash_of (m.subkey_of e) header body
     pub subkey : m.subkey_of f ≡ m.subkey_of e
     pub ready : m.ready_of f ≡ m.ready_of e
     pub chain : Chain m (resume block_ring.zero ∷ map absorb (block_list header body)) e f
 
   -- a check that came to the comparison hashed the message; any other left the engine as it was
-  abbrev pub CheckRan : E → List ℕ → List ℕ → E → Result (Unit {0}) Refusal → Type 0
-  CheckRan e header body f (Ok x) = Ran e header body f
-  CheckRan e header body f (Err refusal) = MatchBool (number_of refusal == number_of TagDiffers) (Ran e header body f) (f ≡ e)
+  abbrev pub HashesIfChecked : E → List ℕ → List ℕ → E → Result (Unit {0}) Refusal → Type 0
+  HashesIfChecked e header body f (Ok x) = HashesMessage e header body f
+  HashesIfChecked e header body f (Err refusal) = MatchBool (refusal_number refusal == refusal_number TagDiffers) (HashesMessage e header body f) (f ≡ e)

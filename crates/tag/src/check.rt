@@ -1,8 +1,8 @@
 // The tag of a whole message, and the check of a tag.
 ghost use Rattle.std.specs.Prelude.{◌≡◌, IfOk, MatchResult};
-ghost use Rattle.message.specs.Answer.{answer};
+ghost use Rattle.message.specs.Answer.{digest_answer};
 ghost use Rattle.message.specs.Standard.{MeetsStandard};
-ghost use Rattle.tag.specs.Tags.{CheckRan, Ran, check_answer};
+ghost use Rattle.tag.specs.Tags.{HashesIfChecked, HashesMessage, check_answer};
 
 use crate::compare::begins_with;
 use crate::hash::hash_message;
@@ -19,9 +19,9 @@ pub fn tag_message<E: Engine>(
     pad: Block,
     message: Message,
 ) -> Result<Digest, Refusal>
-    ensures answer { result ≡ answer (E.subkey_of engine.old) pad message.entry.header.now message.entry.body.now }
+    ensures answer { result ≡ digest_answer (E.subkey_of engine.old) pad message.entry.header.now message.entry.body.now }
     ensures standard { IfOk result (λ t. MeetsStandard (E.subkey_of engine.old) pad message.entry.header.now message.entry.body.now t.hash t.tag) }
-    ensures engine { MatchResult result (λ _. Ran E.Engine engine.old message.entry.header.now message.entry.body.now engine.new) (λ _. engine.new ≡ engine.old) }
+    ensures engine { MatchResult result (λ _. HashesMessage E.Engine engine.old message.entry.header.now message.entry.body.now engine.new) (λ _. engine.new ≡ engine.old) }
 {
     message.check_lengths()?;
     let hash = hash_message(engine, message);
@@ -40,7 +40,7 @@ pub fn check_tag<E: Engine>(
     given: &[u8],
 ) -> Result<(), Refusal>
     ensures answer { result ≡ check_answer (E.subkey_of engine.old) pad message.entry.header.now message.entry.body.now given.now }
-    ensures engine { CheckRan E.Engine engine.old message.entry.header.now message.entry.body.now engine.new result }
+    ensures engine { HashesIfChecked E.Engine engine.old message.entry.header.now message.entry.body.now engine.new result }
 {
     if given.len() < 4 || given.len() > 16 {
         return Err(Refusal::TagLength);

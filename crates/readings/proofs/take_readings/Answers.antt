@@ -1,5 +1,5 @@
 use Rattle.std.proofs.Common.{◌≡◌, [], ◌∷◌, Ok, Result, ap, ◌∙◌}
-use Rattle.field.specs.declared.kinds.Block.{Block}
+use Rattle.field.specs.declared.block.Block.{Block}
 use Rattle.message.specs.Hash.{hash_of}
 use Rattle.message.specs.declared.digest.Digest.{Digest}
 use Rattle.refusal.specs.declared.Refusal.{Refusal}

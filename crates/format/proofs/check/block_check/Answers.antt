@@ -3,7 +3,7 @@ use Rattle.field.specs.Bytes.{word_of}
 use Rattle.field.specs.Evaluation.{eval_from}
 use Rattle.field.specs.Instances.{word_ring_laws}
 use Rattle.field.specs.Kinds.{word, word_ring}
-use Rattle.field.specs.declared.kinds.Word.{Word}
+use Rattle.field.specs.declared.word.Word.{Word}
 use Rattle.field.proofs.Horner.{eval_from_zero}
 use Rattle.format.specs.Layout.{pairs, check_of}
 use Rattle.format.proofs.Pairs.{words_pairs}

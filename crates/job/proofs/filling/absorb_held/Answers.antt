@@ -1,11 +1,11 @@
 use Rattle.std.proofs.Common.{take, ap, ◌∙◌}
 use Rattle.field.specs.Bytes.{block_of}
-use Rattle.message.specs.Blocks.{filled}
+use Rattle.message.specs.Blocks.{filled_piece}
 use Rattle.engine.proofs.HashedRows.{hashed_one}
-use Rattle.job.proofs.filling.absorb_held.Goals as goal
+use Rattle.job.proofs.buffer.absorb_pending.Goals as goal
 
 pub returns-clause-hashed : goal.returns-clause-hashed
 returns-clause-hashed g c =
     let said = c.absorb.ensures in
     hashed_one g.E.Engine c.args.engine.now c.absorb.new.self _ _ said.value said.subkey said.ready said.whole
-    (c.block_of.ensures.value ∙ ap (λ xs. block_of (filled (take 16 xs))) c.as_slice.ensures.value)
+    (c.block_of.ensures.value ∙ ap (λ xs. block_of (filled_piece (take 16 xs))) c.as_slice.ensures.value)

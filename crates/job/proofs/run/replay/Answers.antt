@@ -25,10 +25,10 @@ returns g c =
     let f = c.answer_all.new.self in
     let t = c.answer_all-2.new.self in
     let first =
-    from_beginning m i.filling c.args.header_answers.now h given [] Header f hs c.answer_all.new.row i.taking c.answer_all.ensures.answered c.start-job.ensures.holds in
+    from_beginning m i.buffer c.args.header_answers.now h given [] Header f hs c.answer_all.new.row i.taking c.answer_all.ensures.answered c.start-job.ensures.holds in
     let turned = c.turn-job.ensures.holds h given header first.1.holds in
     let second =
-    from_beginning m b.filling c.args.body_answers.now h given (blocks header) Body t bs c.answer_all-2.new.row b.taking c.answer_all-2.ensures.answered turned.holds in
+    from_beginning m b.buffer c.args.body_answers.now h given (blocks header) Body t bs c.answer_all-2.new.row b.taking c.answer_all-2.ensures.answered turned.holds in
     let few : t.count ≤ body_limit = subst (λ (p : Part). t.count ≤ limit_of p) (c.answer_all-2.ensures.part ∙ b.taking) t.few in
     record {
       header = first.0;

@@ -3,7 +3,7 @@ use borrow.Rule.Slice.PartMut.{put_mid}
 use Rattle.std.proofs.lemmas.List.{take_at, drop_at, drop-drop}
 use Rattle.std.proofs.lemmas.Bool.{cond-false}
 use Rattle.field.specs.Bytes.{bytes_of}
-use Rattle.field.specs.declared.kinds.Block.{Block}
+use Rattle.field.specs.declared.block.Block.{Block}
 use Rattle.field.proofs.Digits.{length_digits}
 use Rattle.message.specs.Answer.{digest_of}
 use Rattle.message.specs.declared.digest.Digest.{Digest}
@@ -12,7 +12,7 @@ use Rattle.message.proofs.Within.{accepted_value, after_lengths}
 use Rattle.engine.specs.declared.step.Step.{Step}
 use Rattle.refusal.specs.declared.Refusal.{Refusal}
 use Rattle.refusal.specs.declared.Refusal.TheVariants.{OutputTooShort}
-use Rattle.logger.specs.Calls.{seal_answer, written_if}
+use Rattle.logger.specs.Calls.{tag_call_answer, output_if}
 use Rattle.logger.proofs.seal.seal.Goals as goal
 
 -- sixteen bytes over the first, and sixteen over the next
@@ -45,7 +45,7 @@ returns c =
     c.copy_from_slice.ensures.after ∙ c.to_bytes.ensures.value ∙ ap (λ (d : Digest). bytes_of d.hash) same in
     let second : c.copy_from_slice-2.new.self ≡ tag =
     c.copy_from_slice-2.ensures.after ∙ c.to_bytes-2.ensures.value ∙ ap (λ (d : Digest). bytes_of d.tag) same in
-    let accepted : ok ≡ seal_answer header body output =
+    let accepted : ok ≡ tag_call_answer header body output =
     sym (cond-false _ _ _ (le-ltb (length output) 32 (omega arith)))
     ∙ after_lengths (cond (ltb (length output) 32) (Err OutputTooShort) ok) header body tt ok
     (sym c.in_ok-check_lengths.was ∙ c.check_lengths.ensures.answer) in
@@ -54,5 +54,5 @@ returns c =
       output =
           ap₂ (λ (xs ys : List ℕ). put_mid 16 16 (xs ++ drop 16 output) ys) first second
           ∙ two hash tag output (length_digits 256 16 (hash_of subkey header body).bits) (length_digits 256 16 (tag_of subkey pad header body).bits)
-          ∙ ap (λ (r : Result (Unit {0}) Refusal). written_if r (hash ++ tag) output) accepted;
+          ∙ ap (λ (r : Result (Unit {0}) Refusal). output_if r (hash ++ tag) output) accepted;
     }

@@ -2,25 +2,25 @@ use Rattle.std.proofs.Common.{◌≡◌, ℕ, ◌*◌, ◌/◌, List, ◌++◌, 
 use Rattle.std.proofs.lemmas.Bool.{eqb-true, eqb-false}
 use Rattle.std.specs.Simd.{first_chunks}
 use Rattle.field.specs.Bytes.{block_of}
-use Rattle.field.specs.Evaluation.{eval_from, absorbed}
+use Rattle.field.specs.Evaluation.{eval_from, horner}
 use Rattle.field.specs.Instances.{block_ring_laws}
 use Rattle.field.specs.Kinds.{block_ring}
-use Rattle.field.specs.declared.kinds.Block.{Block}
-use Rattle.field.proofs.Horner.{absorbed_append, absorbed_from}
+use Rattle.field.specs.declared.block.Block.{Block}
+use Rattle.field.proofs.Horner.{horner_append, horner_from}
 use Rattle.message.specs.Blocks.{blocks}
 use Rattle.message.proofs.Cutting.{blocks_none}
 use Rattle.message.proofs.Pieces.{blocks_whole, blocks_short}
 use Rattle.message.proofs.absorb.absorb_part.Goals as goal
 
 abbrev after : Block → Block → List Block → Block
-after subkey v ps = absorbed block_ring subkey v ps
+after subkey v ps = horner block_ring subkey v ps
 
 -- a part taken in: its whole pieces, then what is left
 in_two : (subkey start v : Block) (part rest : List ℕ) (whole : List (List ℕ)) → whole ≡ first_chunks 16 (length part / 16) part → rest ≡ drop (length part / 16 * 16) part
     → v ≡ eval_from block_ring subkey start (map block_of whole) → after subkey v (blocks rest) ≡ after subkey start (blocks part)
 in_two subkey start v part rest whole front back made =
-    ap (λ (u : Block). after subkey u (blocks rest)) (made ∙ sym (absorbed_from block_ring block_ring_laws subkey start (map block_of whole)))
-    ∙ sym (absorbed_append block_ring block_ring_laws subkey start (map block_of whole) (blocks rest))
+    ap (λ (u : Block). after subkey u (blocks rest)) (made ∙ sym (horner_from block_ring block_ring_laws subkey start (map block_of whole)))
+    ∙ sym (horner_append block_ring block_ring_laws subkey start (map block_of whole) (blocks rest))
     ∙ ap (after subkey start)
     (ap₂ (λ (ps : List (List ℕ)) (xs : List ℕ). map block_of ps ++ blocks xs) front back ∙ sym (blocks_whole part))
 

@@ -1,7 +1,7 @@
 use Rattle.std.proofs.Common.{ℕ, ◌+◌, ◌<◌, List, length, sym, ap, ◌∙◌, subst, refl, arith}
 use Rattle.std.proofs.lemmas.List.FromFn.{fill_by_all}
 use Rattle.std.proofs.lemmas.List.{get_or_read}
-use Rattle.polynomial.specs.Polynomials.{stored, element}
+use Rattle.polynomial.specs.Polynomials.{coefficient_list, element}
 use Rattle.polynomial.proofs.Reading.{ReadTo, read_zero, read_one, one_from_sum, sum_from_one}
 use Rattle.polynomial.proofs.maker.read_bits.Goals as goal
 use Rattle.polynomial.proofs.maker.read_bits.Goals.{then-not-is_zero+else-not-is_zero-2, else-not-is_zero}
@@ -50,7 +50,7 @@ returns-then-not-is_zero-2 g c =
     )
 
 pub returns : goal.returns
-unfolding stored
+unfolding coefficient_list
 returns g c =
     let m = g.K.Element in
     let xs : List g.row.K.Denot = c.args.coefficients.now in

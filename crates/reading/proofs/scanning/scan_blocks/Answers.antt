@@ -2,9 +2,9 @@ use Rattle.std.proofs.Common.{◌≡◌, ℕ, ◌<◌, ◌≤◌, List, length, 
 use Rattle.std.proofs.lemmas.Fn.{serves_by, chained_keeps}
 use Rattle.std.proofs.lemmas.List.{at_drop_all, take_all}
 use Rattle.std.proofs.lemmas.List.FromFn.{length-enumerate_from}
-use Rattle.format.specs.Faults.{Previous, fault_of, scanned}
+use Rattle.format.specs.Faults.{Previous, fault_of, scan_result}
 use Rattle.reading.specs.Shapes.{previous_of}
-use Rattle.reading.specs.Scanning.{IsTallyOf, Scanned}
+use Rattle.reading.specs.Scanning.{IsTallyOf, ScansBlocks}
 use Rattle.reading.specs.declared.scanning.Scan.{Scan}
 use Rattle.std.proofs.lemmas.Iterator.{YieldsList, YieldsList-from_slice}
 use Rattle.std.proofs.lemmas.Iterator.Consumers.{YieldsList-from_enumerate, YieldsList-turn, YieldsList-so_far, YieldsList-end}
@@ -47,12 +47,12 @@ returns c =
     let e : c.try_fold.result ≡ Ok a = search rules in
     let long : k ≡ length bs = (YieldsList-end chain xs turns.0 turns.1 ran.1 _ none turns.2).1 ∙ length-enumerate_from 0 bs in
     let end = take_all k bs (omega (arith, long)) in
-    subst (Scanned bs) (sym e) (
-      m.scan ∙ at_drop_all (scanned k last) bs k (omega (arith, long)),
+    subst (ScansBlocks bs) (sym e) (
+      m.scan ∙ at_drop_all (scan_result k last) bs k (omega (arith, long)),
       subst (λ cs. IsTallyOf 1 cs a.header) end m.header,
       subst (λ cs. IsTallyOf 2 cs a.body) end m.body,
     ))
     (λ x some broke. by_result c.try_fold.result (λ z is. absurd (search (rules, is))) (λ z is.
     let bad : fault_of x.0 last x.1.now ≡ Some z = search (rules, is) in
     let p = placed bs k x (YieldsList-turn chain xs turns.0 turns.1 ran.1 _ x some turns.2) in
-    subst (Scanned bs) (sym is) (m.scan ∙ scan_ends k last bs x.1.now z p.0 (ap₂ (λ n b. fault_of n last b) (sym p.1) (sym p.2) ∙ bad))))
+    subst (ScansBlocks bs) (sym is) (m.scan ∙ scan_ends k last bs x.1.now z p.0 (ap₂ (λ n b. fault_of n last b) (sym p.1) (sym p.2) ∙ bad))))

@@ -5,7 +5,7 @@ use Rattle.std.proofs.lemmas.Bool.Decides.{nat_tests}
 use Rattle.std.specs.List.{concat}
 use Rattle.refusal.specs.declared.Refusal.{Refusal}
 use Rattle.refusal.specs.declared.Refusal.TheVariants.{NoEnd}
-use Rattle.format.specs.Faults.{Previous, blocks_of, data_in, data_of, used_in, scanned, first}
+use Rattle.format.specs.Faults.{Previous, blocks_of, data_in, data_of, used_in, scan_result, first}
 use Rattle.reading.specs.Scanning.{blocks_of_kind}
 use Rattle.format.specs.Flaws.{IsScanFault}
 use Rattle.format.specs.Verdict.{scan_answer}
@@ -37,7 +37,7 @@ returns-in_err-scan-clause-answer c =
     let came = err_from_is_err_and c.from_residual.result c.from_residual.ensures.1 in
     let all = chunks_are file c.as_chunks.result.0.now c.as_chunks.ensures.front in
     ap lengths_answer (came.1 ∙ ap (λ (e : Refusal). Err e) came.2)
-    ∙ sym (answer_fault file (sym c.if-not-size_good.ensures) c.in_err-scan.field-0.0 (ap (scanned 0 first) (sym all) ∙ c.in_err-scan.ensures))
+    ∙ sym (answer_fault file (sym c.if-not-size_good.ensures) c.in_err-scan.field-0.0 (ap (scan_result 0 first) (sym all) ∙ c.in_err-scan.ensures))
 
 pub returns-in_err-scan-clause-refused : goal.returns-in_err-scan-clause-refused
 returns-in_err-scan-clause-refused c = fault_told c.args.file.now c.from_residual.result (returns-in_err-scan-clause-answer c)
@@ -48,7 +48,7 @@ returns-then-not-has_end-clause-answer c =
     let all = chunks_are file c.as_chunks.result.0.now c.as_chunks.ensures.front in
     let none = sym c.has_end.ensures ∙ c.if-not-has_end.true in
     ap (λ (n : ℕ). Err (NoEnd n)) c.as_chunks.ensures.front_len
-    ∙ sym (answer_no_end file (sym c.if-not-size_good.ensures) (previous_of c.in_ok-scan.scan.last) (ap (scanned 0 first) (sym all) ∙ c.in_ok-scan.ensures.0) none)
+    ∙ sym (answer_no_end file (sym c.if-not-size_good.ensures) (previous_of c.in_ok-scan.scan.last) (ap (scan_result 0 first) (sym all) ∙ c.in_ok-scan.ensures.0) none)
 
 pub returns-then-not-has_end-clause-refused : goal.returns-then-not-has_end-clause-refused
 returns-then-not-has_end-clause-refused c =
@@ -98,7 +98,7 @@ returns c =
     record {
       answer =
           (λ i. Ok record { header = (said.1.bytes ∙ ap (λ (xs : List (List ℕ)). length (data_of 1 xs)) all) i; body = (said.2.bytes ∙ ap (λ (xs : List (List ℕ)). length (data_of 2 xs)) all) i })
-          ∙ sym (answer_end file (sym c.if-not-size_good.ensures) last (ap (scanned 0 first) (sym all) ∙ said.0) test);
+          ∙ sym (answer_end file (sym c.if-not-size_good.ensures) last (ap (scan_result 0 first) (sym all) ∙ said.0) test);
       refused = tt;
       sections = record {
         header = of_kind 1 bs c.split_at.result.0.now (blocks_of file) (c.split_at.ensures.front ∙ header_cut bs last scan.header.blocks scan.body.blocks said.0 end said.1.blocks said.2.blocks) all;

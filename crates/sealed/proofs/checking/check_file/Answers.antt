@@ -1,6 +1,6 @@
 use Rattle.std.proofs.Common.{◌≡◌, ℕ, Bool, cond, eqb, List, length, IfErr, Ok, Err, Result, sym, ap, ◌∙◌, subst, ap₂, arith}
 use Rattle.field.specs.Digits.{numeral}
-use Rattle.field.specs.declared.kinds.Block.{Block}
+use Rattle.field.specs.declared.block.Block.{Block}
 use Rattle.message.specs.Hash.{tag_of}
 use Rattle.refusal.specs.declared.Refusal.{Refusal}
 use Rattle.refusal.specs.declared.Refusal.TheVariants.{TagDiffers}
@@ -14,7 +14,7 @@ use Rattle.format.specs.declared.lengths.Lengths.{Lengths}
 use Rattle.reading.proofs.Places.{sized}
 use Rattle.reading.proofs.Scans.{data_in_file}
 use Rattle.reading.specs.Sections.{section_bytes}
-use Rattle.tag.specs.Tags.{Ran}
+use Rattle.tag.specs.Tags.{HashesMessage}
 use Rattle.sealed.specs.Checking.{EngineAfter}
 use Rattle.sealed.proofs.Verdicts.{hashed_file, untouched}
 use Rattle.sealed.proofs.checking.check_file.Goals as goal
@@ -59,8 +59,8 @@ returns g c =
     c.compare_tags.ensures
     ∙ ap₂ (λ (t : Bool) (r : Result Lengths Refusal). cond t r (Err TagDiffers)) same (ap (λ (l : Lengths). Ok l) (passed file lengths (sym c.in-Ok.ensures.answer)).1)
     ∙ ap (λ (r : Result Lengths Refusal). after r (λ _. tagged)) c.in-Ok.ensures.answer in
-    let ran : Ran m e (header_in file) (body_in file) f =
-    subst (λ (xs : List ℕ). Ran m e (header_in file) xs f) cut.body (subst (λ (xs : List ℕ). Ran m e xs (section_bytes c.in-Ok.sections.body) f) cut.header c.hash_sections-engine.ensures.ran) in
+    let ran : HashesMessage m e (header_in file) (body_in file) f =
+    subst (λ (xs : List ℕ). HashesMessage m e (header_in file) xs f) cut.body (subst (λ (xs : List ℕ). HashesMessage m e xs (section_bytes c.in-Ok.sections.body) f) cut.header c.hash_sections-engine.ensures.ran) in
     record {
       answer = said;
       refused = subst (λ (r : Result Lengths Refusal). IfErr r (IsFault h pad file)) (sym said) (explained h pad file);

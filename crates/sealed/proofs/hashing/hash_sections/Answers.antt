@@ -15,11 +15,11 @@ returns g c =
     let j = c.feed_part.new.job in
     let b = c.turn-job.result in
     let t = c.feed_part-2.new.job in
-    let first = c.feed_part.ensures h given s.filling.engine (header_none m h given s c.start-job.ensures.holds) in
+    let first = c.feed_part.ensures h given s.buffer.engine (header_none m h given s c.start-job.ensures.holds) in
     let turned = body_none m h given b header (c.turn-job.ensures.holds h given header first.holds) in
-    let second = c.feed_part-2.ensures h given b.filling.engine header turned in
+    let second = c.feed_part-2.ensures h given b.buffer.engine header turned in
     let closes = c.close.ensures.closes h given header body second.holds in
     record {
-      ran = ran_whole m engine s.filling.engine c.args.pad j b t c.close.result header body c.start-job.ensures.whole.resumed first c.turn-job.ensures.whole second c.close.ensures.whole.hashed closes;
+      ran = ran_whole m engine s.buffer.engine c.args.pad j b t c.close.result header body c.start-job.ensures.whole.resumes first c.turn-job.ensures.whole second c.close.ensures.whole.hashed closes;
       tag = closes.tag;
     }

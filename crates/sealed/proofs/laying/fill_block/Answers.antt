@@ -1,13 +1,13 @@
 use Rattle.std.proofs.Common.{◌≡◌, ℕ, ◌+◌, ◌-◌, ◌/◌, ◌%◌, List, [], ◌∷◌, length, get_or, replicate, ap, ◌∙◌, arith}
-use Rattle.format.specs.Kinds.{number_of}
-use Rattle.sealed.proofs.Layers.{room_left, block_laid}
+use Rattle.format.specs.Kinds.{kind_number}
+use Rattle.sealed.proofs.Layers.{room_left, block_numbered}
 use Rattle.sealed.proofs.laying.fill_block.Goals as goal
 
 pub returns : goal.returns
 returns c =
     let block : List ℕ = c.args.block.now in
     let number : ℕ = c.args.number in
-    let kind : ℕ = number_of c.args.kind in
+    let kind : ℕ = kind_number c.args.kind in
     let bytes : List ℕ = c.args.data.now in
     let size : ℕ = length bytes in
     let w₁ : List ℕ = c.copy_from_slice.new.self in
@@ -22,5 +22,5 @@ returns c =
     let left : 508 - (6 + size) ≡ 502 - size = omega arith in
     let room = room_left block c.requires.whole number kind bytes c.requires.fits w₁ w₂ wrote₁ wrote₂ (6 + size - 6) long (508 - (6 + size)) left in
     let wrote₃ : w₃ ≡ replicate (508 - (6 + size)) 0 = c.fill.ensures.after (λ y e. e) ∙ ap (λ (j : ℕ). replicate j 0) room in
-    block_laid block c.requires.whole number kind bytes c.requires.fits w₁ w₂ wrote₁ wrote₂ (6 + size - 6) long (508 - (6 + size)) left w₃ wrote₃
+    block_numbered block c.requires.whole number kind bytes c.requires.fits w₁ w₂ wrote₁ wrote₂ (6 + size - 6) long (508 - (6 + size)) left w₃ wrote₃
     c.block_check.result w₄ c.block_check.ensures (c.copy_from_slice-3.ensures.after ∙ c.to_be_bytes-check.ensures)

@@ -1,8 +1,8 @@
 use Rattle.std.proofs.Common.{◌≡◌, ℕ, ◌+◌, ◌*◌, ◌≤◌, List, ◌++◌, map, length, take, drop, sym, ap, ◌∙◌, ap₂, arith}
 use Rattle.std.proofs.lemmas.List.{length-take-le, take-append-drop}
 use Rattle.field.specs.Bytes.{bytes_of}
-use Rattle.format.specs.Layout.{block_bytes, content, contents, laid, pieces}
-use Rattle.sealed.proofs.Layers.{drop_further, whole_laid}
+use Rattle.format.specs.Layout.{block_bytes, content, contents, numbered_blocks, data_pieces}
+use Rattle.sealed.proofs.Layers.{drop_further, whole_numbered}
 use Rattle.sealed.proofs.laying.put_file.Goals as goal
 
 pub returns : goal.returns
@@ -19,11 +19,11 @@ returns c =
     let first = c.put_part-next.ensures in
     let second = c.put_part-next-2.ensures in
     let third = c.put_block.ensures in
-    let file : List ℕ = laid 0 (contents header body (bytes_of c.args.tag)) in
+    let file : List ℕ = numbered_blocks 0 (contents header body (bytes_of c.args.tag)) in
     let written : take end o₃ ≡ file =
     third.front
-    ∙ ap₂ (λ (xs ys : List ℕ). xs ++ block_bytes k (content 3 ys)) (second.front ∙ ap (λ (xs : List ℕ). xs ++ laid n (map (content 2) (pieces body))) first.front) c.to_bytes.ensures.value
-    ∙ whole_laid header body (bytes_of c.args.tag) n k first.next second.next in
+    ∙ ap₂ (λ (xs ys : List ℕ). xs ++ block_bytes k (content 3 ys)) (second.front ∙ ap (λ (xs : List ℕ). xs ++ numbered_blocks n (map (content 2) (data_pieces body))) first.front) c.to_bytes.ensures.value
+    ∙ whole_numbered header body (bytes_of c.args.tag) n k first.next second.next in
     let left : drop end o₃ ≡ drop end entry =
     third.back ∙ drop_further (512 * k) end o₂ o₁ (omega arith) second.back ∙ drop_further (512 * n) end o₁ entry (omega (arith, second.next)) first.back in
     let kept : length o₃ ≡ length entry = c.put_block.auto.output ∙ c.put_part-next-2.auto.output ∙ c.put_part-next.auto.output in

@@ -1,14 +1,14 @@
 use Rattle.std.proofs.Common.{◌≡◌, ℕ, suc, ◌+◌, ◌*◌, ◌<◌, min, List, ◌∷◌, ◌++◌, map, length, take, drop, sym, ap, ◌∙◌, subst, ap₂, append_assoc, append-nil, add-one, arith}
 use Rattle.std.specs.Slice.Iter.{chunks_rest}
-use Rattle.format.specs.Kinds.{number_of}
-use Rattle.format.specs.Layout.{block_bytes, content, laid, pieces}
+use Rattle.format.specs.Kinds.{kind_number}
+use Rattle.format.specs.Layout.{block_bytes, content, numbered_blocks, data_pieces}
 use Rattle.format.proofs.Pieces.{length_pieces, pieces_none}
 use Rattle.sealed.proofs.Layers.{drop_further, next_piece}
 use Rattle.sealed.proofs.laying.put_part.Goals as goal
 
 pub loop-k-preserved : goal.loop-k-preserved
 loop-k-preserved c =
-    let kind : ℕ = number_of c.args.kind in
+    let kind : ℕ = kind_number c.args.kind in
     let n : ℕ = c.args.first + c.in-Some.k in
     let entry : List ℕ = c.args.output.now in
     let out : List ℕ = c.loop-k.output in
@@ -24,15 +24,15 @@ loop-k-preserved c =
     let size : length piece ≡ min 502 (length (piece ++ more)) =
     went.0.1.1 ∙ ap₂ (λ (j : ℕ) (xs : List ℕ). min j (length xs)) inv.size joins in
     let some : 0 < length (piece ++ more) = subst (λ (xs : List ℕ). 0 < length xs) joins went.0.1.2 in
-    let cut : pieces left ≡ piece ∷ pieces more = ap pieces joins ∙ next_piece piece more size some in
-    let later : List ℕ = laid (suc n) (map (content kind) (pieces more)) in
+    let cut : data_pieces left ≡ piece ∷ data_pieces more = ap data_pieces joins ∙ next_piece piece more size some in
+    let later : List ℕ = numbered_blocks (suc n) (map (content kind) (data_pieces more)) in
     record {
-      laid =
-          ap (λ (j : ℕ). take (512 * j) new ++ laid j (map (content kind) (pieces more))) next
-          ∙ ap₂ (λ (xs : List ℕ) (j : ℕ). xs ++ laid j (map (content kind) (pieces more))) c.put_block.ensures.front (add-one n)
+      numbered_blocks =
+          ap (λ (j : ℕ). take (512 * j) new ++ numbered_blocks j (map (content kind) (data_pieces more))) next
+          ∙ ap₂ (λ (xs : List ℕ) (j : ℕ). xs ++ numbered_blocks j (map (content kind) (data_pieces more))) c.put_block.ensures.front (add-one n)
           ∙ append_assoc (take (512 * n) out) (block_bytes n (content kind piece)) later
-          ∙ sym (ap (λ ps. take (512 * n) out ++ laid n (map (content kind) ps)) cut)
-          ∙ ap (λ (j : ℕ). take (512 * j) out ++ laid j (map (content kind) (pieces left))) here
+          ∙ sym (ap (λ ps. take (512 * n) out ++ numbered_blocks n (map (content kind) ps)) cut)
+          ∙ ap (λ (j : ℕ). take (512 * j) out ++ numbered_blocks j (map (content kind) (data_pieces left))) here
           ∙ inv.laid;
       after =
           ap (λ (j : ℕ). drop (512 * j) new) next ∙ c.put_block.ensures.back
@@ -44,12 +44,12 @@ loop-k-preserved c =
 
 pub returns-clause-front : goal.returns-clause-front
 returns-clause-front c =
-    let kind : ℕ = number_of c.args.kind in
+    let kind : ℕ = kind_number c.args.kind in
     let inv = c.loop-k.invariant in
     let left : List ℕ = chunks_rest c.loop-k.k-iterator.iter in
     let none : length left ≡ 0 = c.in-None.ensures.steps.0.1.0 in
     let n : ℕ = c.args.first + c.loop-k.k-iterator.count in
     let end : c.args.first + c.div_ceil.result ≡ n = omega (arith, c.div_ceil.ensures, inv.left, none) in
     ap (λ (j : ℕ). take (512 * j) c.loop-k.output) end ∙ sym (append-nil (take (512 * n) c.loop-k.output))
-    ∙ sym (ap (λ ps. take (512 * n) c.loop-k.output ++ laid n (map (content kind) ps)) (pieces_none left none))
+    ∙ sym (ap (λ ps. take (512 * n) c.loop-k.output ++ numbered_blocks n (map (content kind) ps)) (pieces_none left none))
     ∙ inv.laid

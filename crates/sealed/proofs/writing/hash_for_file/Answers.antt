@@ -1,11 +1,11 @@
 use Rattle.std.proofs.Common.{◌≡◌, ℕ, List, length, Ok, Result, sym, ap, ◌∙◌}
-use Rattle.field.specs.declared.kinds.Block.{Block}
+use Rattle.field.specs.declared.block.Block.{Block}
 use Rattle.format.specs.Verdict.{after}
 use Rattle.message.specs.Answer.{digest_of}
 use Rattle.message.specs.declared.digest.Digest.{Digest}
 use Rattle.message.proofs.Within.{accepted_value}
 use Rattle.refusal.specs.declared.Refusal.{Refusal}
-use Rattle.sealed.specs.declared.handed.Sealed.{Sealed}
+use Rattle.sealed.specs.declared.sealed.Sealed.{Sealed}
 use Rattle.sealed.specs.Writing.{room_answer}
 use Rattle.sealed.proofs.writing.hash_for_file.Goals as goal
 

@@ -1,25 +1,25 @@
 use Rattle.std.proofs.Common.{◌≡◌, ℕ, List, ◌++◌, length, drop, Result, sym, ◌∙◌, subst, MatchResult, OnOk}
-use Rattle.field.specs.declared.kinds.Block.{Block}
+use Rattle.field.specs.declared.block.Block.{Block}
 use Rattle.message.specs.Hash.{hash_of, tag_of}
-use Rattle.format.specs.Layout.{sealed}
+use Rattle.format.specs.Layout.{sealed_file}
 use Rattle.format.specs.Verdict.{Reopens}
 use Rattle.format.proofs.Laws.{reopens}
 use Rattle.refusal.specs.declared.Refusal.{Refusal}
-use Rattle.sealed.specs.declared.handed.Sealed.{Sealed}
+use Rattle.sealed.specs.declared.sealed.Sealed.{Sealed}
 use Rattle.sealed.specs.Writing.{file_of, room_answer}
 use Rattle.sealed.proofs.Layers.{limits_kept, sealed_parts}
 use Rattle.sealed.proofs.writing.write_file.Goals as goal
 use Rattle.sealed.proofs.writing.write_file.Goals.{in-Ok, in_default}
 
 pub returns-clause-output : goal.returns-clause-output
-unfolding sealed
+unfolding sealed_file
 returns-clause-output g c =
     let subkey : Block = g.E.Engine.subkey_of c.args.engine in
     let pad : Block = c.args.pad in
     let header : List ℕ = c.args.message.header.now in
     let body : List ℕ = c.args.message.body.now in
     let entry : List ℕ = c.args.output.now in
-    let file : List ℕ = sealed subkey pad header body in
+    let file : List ℕ = sealed_file subkey pad header body in
     let Written = λ (a : Result Sealed Refusal). MatchResult a (λ _. c.match-answer.output ≡ file ++ drop (length file) entry) (λ _. c.match-answer.output ≡ entry) in
     elim c.match-answer.branch [
       | in-Ok w ↦

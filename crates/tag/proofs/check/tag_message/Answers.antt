@@ -1,6 +1,6 @@
 use Rattle.std.proofs.Common.{◌≡◌, ℕ, List, Ok, Result, sym, ap, ◌∙◌, subst}
 use Rattle.field.specs.Kinds.{block_ring}
-use Rattle.field.specs.declared.kinds.Block.{Block}
+use Rattle.field.specs.declared.block.Block.{Block}
 use Rattle.message.specs.Answer.{digest_of}
 use Rattle.message.specs.declared.digest.Digest.{Digest}
 use Rattle.message.specs.Hash.{hash_of, tag_of}

@@ -1,18 +1,18 @@
 use Rattle.std.proofs.Common.{◌≡◌, [], ◌∷◌, ap, ◌∙◌, rules}
 use Rattle.field.specs.Kinds.{block_ring}
-use Rattle.field.specs.declared.kinds.Block.{Block}
+use Rattle.field.specs.declared.block.Block.{Block}
 use Rattle.field.specs.Instances.{block_ring_laws}
 use Rattle.polynomial.specs.Blocks.{AcceptedBlock, coefficients_of}
-use Rattle.polynomial.specs.Polynomials.{value_at, stored}
-use Rattle.division.specs.Divisions.{divisor_of, row_of, dividend, Reduced}
+use Rattle.polynomial.specs.Polynomials.{value_at, coefficient_list}
+use Rattle.division.specs.Divisions.{divisor_of, row_of, dividend, IsReduction}
 use Rattle.division.specs.Remainders.{sum_of, times_t}
 use Rattle.division.specs.declared.ring.Ring.{Ring}
 use Rattle.division.proofs.OneRemainder.{only_remainder}
-use Rattle.division.proofs.RemainderValues.{remainder_value, times_t_value, constant_value, annihilated, length_stored}
+use Rattle.division.proofs.RemainderValues.{remainder_value, times_t_value, constant_value, annihilated, length_coefficients}
 use Rattle.division.proofs.division.DivisionEngine.absorb.Goals as goal
 
 -- the remainder has the value that the step of the hash wants, since the divisor is zero at the subkey
-stepped : (a : AcceptedBlock) (w w' : Ring) (p : Block) → Reduced a w p w'
+stepped : (a : AcceptedBlock) (w w' : Ring) (p : Block) → IsReduction a w p w'
     → value_at block_ring a.subkey (row_of w') ≡ block_ring.product (block_ring.sum (value_at block_ring a.subkey (row_of w)) p) a.subkey
 stepped a w w' p divided =
     let h : Block = a.subkey in
@@ -34,7 +34,7 @@ returns-clause-whole c =
       divided = c.absorb.ensures.divided;
       only =
           only_remainder block_ring block_ring_laws (dividend c.args.self.now.ring c.args.block)
-          (stored block_ring 128 (coefficients_of a.coefficients)) (row_of c.absorb.new.self) 128
-          (length_stored block_ring 128 (coefficients_of a.coefficients)) c.absorb.ensures.divided;
+          (coefficient_list block_ring 128 (coefficients_of a.coefficients)) (row_of c.absorb.new.self) 128
+          (length_coefficients block_ring 128 (coefficients_of a.coefficients)) c.absorb.ensures.divided;
       turn = c.absorb.ensures.turn;
     }

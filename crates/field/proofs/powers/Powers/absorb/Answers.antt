@@ -2,10 +2,10 @@ use Rattle.std.proofs.Common.{◌≡◌, ℕ, ◌+◌, ◌-◌, ◌*◌, ◌%◌
 use Rattle.field.specs.Bytes.{word_of}
 use Rattle.field.specs.Digits.{numeral}
 use Rattle.field.specs.Evaluation.{power, eval_from}
-use Rattle.field.specs.Held.{entered_mod}
-use Rattle.field.specs.Instances.{word_held, word_ring_laws}
+use Rattle.field.specs.Residues.{entered_mod}
+use Rattle.field.specs.Instances.{word_residues, word_ring_laws}
 use Rattle.field.specs.Kinds.{word_ring}
-use Rattle.field.specs.declared.kinds.Word.{Word}
+use Rattle.field.specs.declared.word.Word.{Word}
 use Rattle.field.proofs.Digits.{spelled, spells_list}
 use Rattle.field.proofs.Groups.{weighed, word_from}
 use Rattle.field.proofs.powers.Powers.absorb.Goals as goal
@@ -44,6 +44,6 @@ returns c =
     let total : ℕ = v.value * (raised 6).value + weighed r (spelled 6 at) in
     let summed : c.remainder.result ≡ total % (2 ^ 31 - 1) =
     c.remainder.ensures ∙ ap (λ (n : ℕ). n % (2 ^ 31 - 1)) (gather _ _ _ _ _ _ _ _ _ _ _ _ _ _ risen first second third fourth fifth sixth) in
-    entered_mod word_held _ total summed
+    entered_mod word_residues _ total summed
     ∙ word_from r v (spelled 6 at)
     ∙ ap (λ (ns : List (List ℕ)). eval_from word_ring r v (map word_of ns)) (sym spelt)

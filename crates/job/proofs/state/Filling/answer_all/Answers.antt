@@ -5,7 +5,7 @@ use Rattle.job.specs.Runs.{AnswersIntoRow}
 use Rattle.job.specs.declared.call.Call.{Call}
 use Rattle.job.specs.declared.call.Call.TheVariants.{Feed}
 use Rattle.job.proofs.Answering.{all_none, all_more}
-use Rattle.job.proofs.state.Filling.answer_all.Goals as goal
+use Rattle.job.proofs.state.BlockBuffer.answer_all.Goals as goal
 
 -- what stands for a call past the end of a slice
 abbrev past : Call

@@ -1,6 +1,6 @@
 use Rattle.std.proofs.Common.{◌≡◌, take}
 use Rattle.job.specs.Runs.{AnswersIntoRow}
-use Rattle.job.proofs.state.Filling.answer_all.Given as goal
+use Rattle.job.proofs.state.BlockBuffer.answer_all.Given as goal
 
 abbrev pub invariant-loop-place : goal.invariant-loop-place
 invariant-loop-place g l =

@@ -1,8 +1,8 @@
 use Rattle.std.proofs.Common.{ℕ, List, [], ◌∷◌, get_or, take, sym, subst}
 use Rattle.std.proofs.lemmas.List.{take_more}
-use Rattle.job.specs.Jobs.{Cut}
+use Rattle.job.specs.Jobs.{CutsIntoBlocks}
 use Rattle.job.proofs.Feeding.{cut_none, cut_append}
-use Rattle.job.proofs.state.Filling.hold.Goals as goal
+use Rattle.job.proofs.state.BlockBuffer.hold.Goals as goal
 
 pub loop-byte-init : goal.loop-byte-init
 loop-byte-init g c = cut_none g.E.Engine c.args.self.now
@@ -13,5 +13,5 @@ loop-byte-preserved g c =
     let f = c.args.self.now in
     let i = c.loop-byte.byte-index in
     let piece : List ℕ = c.args.piece.now in
-    subst (λ (xs : List ℕ). Cut m f xs c.push.new.self) (sym (take_more piece i 0 c.loop-byte-test.true))
+    subst (λ (xs : List ℕ). CutsIntoBlocks m f xs c.push.new.self) (sym (take_more piece i 0 c.loop-byte-test.true))
     (cut_append m f c.loop-byte.self c.push.new.self (take i piece) (get_or piece i 0 ∷ []) c.loop-byte.invariant c.push.ensures)

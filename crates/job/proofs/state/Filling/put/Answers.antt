@@ -2,10 +2,10 @@ use Rattle.std.proofs.Common.{◌≡◌, ℕ, ◌+◌, true, List, [], ◌++◌,
 use Rattle.std.specs.Slice.Iter.{chunks_rest}
 use Rattle.std.proofs.lemmas.List.{nil_from_length}
 use Rattle.message.specs.Limits.{limit_of}
-use Rattle.job.specs.Jobs.{Fed}
+use Rattle.job.specs.Jobs.{TakesPiece}
 use Rattle.job.specs.Plain.{has_room, fits}
 use Rattle.job.proofs.Feeding.{cut_none, cut_append, fed_by, holds_append}
-use Rattle.job.proofs.state.Filling.put.Goals as goal
+use Rattle.job.proofs.state.BlockBuffer.put.Goals as goal
 
 pub loop-block-init : goal.loop-block-init
 loop-block-init g c = ([], refl, cut_none g.E.Engine c.hold.new.self)
@@ -33,14 +33,14 @@ returns g c =
     let all : c.split_at.result.0.now ++ inv.0 ≡ piece =
     ap (λ xs. c.split_at.result.0.now ++ xs) (sym (sym same ∙ inv.1 ∙ ap (λ xs. inv.0 ++ xs) none ∙ append-nil inv.0)) ∙ sym cut.by_index.0 in
     let done = cut_append m _ c.hold.new.self t c.split_at.result.0.now inv.0 c.hold.ensures inv.2 in
-    let fed : Fed m f piece t = fed_by m f _ t _ piece done all refl refl refl refl in
+    let fed : TakesPiece m f piece t = fed_by m f _ t _ piece done all refl refl refl refl in
     let below = c.if-piece-limit.false in
     let room : has_room f.part f.count piece ≡ true =
     le-leb (f.count + length piece) (limit_of f.part) (omega (arith, c.limit.ensures, below, f.few)) in
     record {
       part = fed.part;
       whole = record { answer = rw room refl; outcome = fed };
-      holds = λ h switches before taken held.
-          let same : fits f.part taken piece ≡ true = ap (λ n. has_room f.part n piece) (sym held.count) ∙ room in
-          (rw same refl, rw same (holds_append m h switches before f t taken held piece (λ k. (c.type_inv.piece k).fits) fed));
+      holds = λ h switches before taken pending.
+          let same : fits f.part taken piece ≡ true = ap (λ n. has_room f.part n piece) (sym pending.count) ∙ room in
+          (rw same refl, rw same (holds_append m h switches before f t taken pending piece (λ k. (c.type_inv.piece k).fits) fed));
     }

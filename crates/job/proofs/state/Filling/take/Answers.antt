@@ -1,13 +1,13 @@
 use Rattle.std.proofs.Common.{◌≡◌, List, [], ◌++◌, sym, refl, ap, ◌∙◌, subst, arith, length}
 use Rattle.std.proofs.lemmas.Bool.{eqb-true}
 use Rattle.std.proofs.lemmas.List.{nil_from_length}
-use Rattle.engine.specs.Rows.{Hashed}
+use Rattle.engine.specs.Rows.{HashesBlocks}
 use Rattle.engine.proofs.HashedRows.{hashed_one}
-use Rattle.field.specs.declared.kinds.Block.{Block}
+use Rattle.field.specs.declared.block.Block.{Block}
 use Rattle.job.specs.Cuts.{full_blocks, left_over}
-use Rattle.job.specs.Jobs.{pending}
+use Rattle.job.specs.Jobs.{pending_bytes}
 use Rattle.job.proofs.Cutting.{full_one, left_none}
-use Rattle.job.proofs.state.Filling.take.Goals as goal
+use Rattle.job.proofs.state.BlockBuffer.take.Goals as goal
 
 pub returns-then-piece-eq16 : goal.returns-then-piece-eq16
 returns-then-piece-eq16 g c =
@@ -17,11 +17,11 @@ returns-then-piece-eq16 g c =
     let piece = c.args.piece.now in
     let said = c.absorb.ensures in
     let sixteen : length piece ≡ 16 = omega arith in
-    let none : pending f ≡ [] = nil_from_length _ (eqb-true _ _ (sym c.is_empty.ensures ∙ c.if-is_empty.true)) in
-    let alone : pending f ++ piece ≡ piece = ap (λ xs. xs ++ piece) none in
+    let none : pending_bytes f ≡ [] = nil_from_length _ (eqb-true _ _ (sym c.is_empty.ensures ∙ c.if-is_empty.true)) in
+    let alone : pending_bytes f ++ piece ≡ piece = ap (λ xs. xs ++ piece) none in
     record {
       hashed =
-          subst (λ (ps : List Block). Hashed m f.engine ps e) (sym (ap full_blocks alone ∙ full_one piece sixteen))
+          subst (λ (ps : List Block). HashesBlocks m f.engine ps e) (sym (ap full_blocks alone ∙ full_one piece sixteen))
           (hashed_one m f.engine e _ _ said.value said.subkey said.ready said.whole c.block_of.ensures.value);
       left = none ∙ sym (ap left_over alone ∙ left_none piece sixteen);
       count = refl;

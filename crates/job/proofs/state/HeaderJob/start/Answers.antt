@@ -1,5 +1,5 @@
 use Rattle.std.proofs.Common.{refl, ◌∙◌, subst, arith}
-use Rattle.field.specs.declared.kinds.Block.{Block}
+use Rattle.field.specs.declared.block.Block.{Block}
 use Rattle.job.specs.Cuts.{full_blocks, left_over}
 use Rattle.job.proofs.state.HeaderJob.start.Goals as goal
 
@@ -17,7 +17,7 @@ returns g c =
         bytes = λ k. omega arith;
       };
       whole = record {
-        resumed = subst (λ (v : Block). g.E.Engine.resumed c.args.engine v c.resume.new.self) c.zero.ensures said.whole;
+        resumed = subst (λ (v : Block). g.E.Engine.resumes c.args.engine v c.resume.new.self) c.zero.ensures said.whole;
         value = said.value ∙ c.zero.ensures;
         subkey = said.subkey;
         ready = said.ready;

@@ -10,20 +10,20 @@ pub returns : goal.returns
 unfolding full_blocks left_over
 returns g c =
     let m = g.E.Engine in
-    let f = c.args.self.filling in
+    let f = c.args.self.buffer in
     let t = c.flush.new.self in
     let flushed = c.flush.ensures in
     record {
-      holds = λ h switches header held. record {
-        before = flushed.count ∙ held.count;
-        bytes = held.bytes;
+      holds = λ h switches header pending. record {
+        before = flushed.count ∙ pending.count;
+        bytes = pending.bytes;
         holds = record {
-          subkey = flushed.hashed.subkey ∙ held.subkey;
-          ready = flushed.hashed.ready ∙ held.ready;
+          subkey = flushed.hashed.subkey ∙ pending.subkey;
+          ready = flushed.hashed.ready ∙ pending.ready;
           count = refl;
           left = flushed.left;
           value =
-              flushed_value m h switches [] f t header held flushed
+              flushed_value m h switches [] f t header pending flushed
               ∙ ap (eval block_ring h) (sym (append-nil (blocks header)));
           bytes = λ k. omega arith;
         };

@@ -1,8 +1,8 @@
 use Rattle.std.proofs.Common.{◌≡◌, ℕ, List, [], ◌∷◌, ◌++◌, Ok, Result, sym, ap, ◌∙◌, subst, ap₂}
-use Rattle.field.specs.Evaluation.{eval, absorbed}
+use Rattle.field.specs.Evaluation.{eval, horner}
 use Rattle.field.specs.Kinds.{block_ring}
-use Rattle.field.specs.declared.kinds.Block.{Block}
-use Rattle.field.proofs.Horner.{absorbed_append, absorbed_eval}
+use Rattle.field.specs.declared.block.Block.{Block}
+use Rattle.field.proofs.Horner.{horner_append, horner_eval}
 use Rattle.field.specs.Instances.{block_ring_laws}
 use Rattle.refusal.specs.declared.Refusal.{Refusal}
 use Rattle.message.specs.Answer.{digest_of}
@@ -16,11 +16,11 @@ use Rattle.message.proofs.part.Message.hash_and_tag.Goals as goal
 
 -- header, body and length block, taken in one after the other
 in_order : (h : Block) (ps qs : List Block) (q : Block)
-    → block_ring.product (block_ring.sum (absorbed block_ring h (absorbed block_ring h block_ring.zero ps) qs) q) h ≡ eval block_ring h (ps ++ (qs ++ (q ∷ [])))
+    → block_ring.product (block_ring.sum (horner block_ring h (horner block_ring h block_ring.zero ps) qs) q) h ≡ eval block_ring h (ps ++ (qs ++ (q ∷ [])))
 in_order h ps qs q =
-    sym (absorbed_append block_ring block_ring_laws h (absorbed block_ring h block_ring.zero ps) qs (q ∷ []))
-    ∙ sym (absorbed_append block_ring block_ring_laws h block_ring.zero ps (qs ++ (q ∷ [])))
-    ∙ absorbed_eval block_ring block_ring_laws h [] (ps ++ (qs ++ (q ∷ [])))
+    sym (horner_append block_ring block_ring_laws h (horner block_ring h block_ring.zero ps) qs (q ∷ []))
+    ∙ sym (horner_append block_ring block_ring_laws h block_ring.zero ps (qs ++ (q ∷ [])))
+    ∙ horner_eval block_ring block_ring_laws h [] (ps ++ (qs ++ (q ∷ [])))
 
 abbrev taken : Digest → Result Digest Refusal
 taken d = Ok d
@@ -32,10 +32,10 @@ returns c =
     let pad : Block = c.args.pad in
     let header : List ℕ = c.args.self.header.now in
     let body : List ℕ = c.args.self.body.now in
-    let first : c.absorb_part-after_header.result ≡ absorbed block_ring subkey block_ring.zero (blocks header) =
-    c.absorb_part-after_header.ensures ∙ ap (λ (v : Block). absorbed block_ring subkey v (blocks header)) c.zero.ensures in
-    let second : c.absorb_part-after_body.result ≡ absorbed block_ring subkey (absorbed block_ring subkey block_ring.zero (blocks header)) (blocks body) =
-    c.absorb_part-after_body.ensures ∙ ap (λ (v : Block). absorbed block_ring subkey v (blocks body)) first in
+    let first : c.absorb_part-after_header.result ≡ horner block_ring subkey block_ring.zero (blocks header) =
+    c.absorb_part-after_header.ensures ∙ ap (λ (v : Block). horner block_ring subkey v (blocks header)) c.zero.ensures in
+    let second : c.absorb_part-after_body.result ≡ horner block_ring subkey (horner block_ring subkey block_ring.zero (blocks header)) (blocks body) =
+    c.absorb_part-after_body.ensures ∙ ap (λ (v : Block). horner block_ring subkey v (blocks body)) first in
     let lengths : c.block_of_byte_counts-lengths.result ≡ block_of_lengths header body =
     c.block_of_byte_counts-lengths.ensures ∙ sym (lengths_counts header body) in
     let hashed : c.absorb-hash.result ≡ hash_of subkey header body =

@@ -2,8 +2,8 @@ use Rattle.std.proofs.Common.{◌≡◌, ℕ, suc, ◌+◌, ◌*◌, ◌≤◌, 
 use Rattle.std.proofs.lemmas.List.{length-drop, take_rest, drop-drop}
 use Rattle.std.proofs.lemmas.Result.{err_from_is_err_and}
 use Rattle.format.specs.Faults.{Previous, is_size_good, kind_in, data_in, previous, previous_at, block_at, fault_of}
-use Rattle.reading.specs.Reading.{Parsed, Taken, wrong_at}
-use Rattle.reading.specs.Shapes.{previous_of, shown}
+use Rattle.reading.specs.Reading.{ParsesRecord, IsItemOf, wrong_at}
+use Rattle.reading.specs.Shapes.{previous_of, previous_shape}
 use Rattle.reading.specs.declared.record.Item.{Item}
 use Rattle.reading.proofs.Joining.{joins_record}
 use Rattle.reading.proofs.Places.{wrong_block}
@@ -31,7 +31,7 @@ module _ (file block left : List ℕ) (k : ℕ) (p : Previous) (is_left : left �
   next_previous q said = said ∙ ap previous is_block ∙ sym (ap (previous_at file) (add-one k))
 
 -- the record that was read of what is left is that of its place
-taken : (file : List ℕ) (k : ℕ) (i : Item) → Parsed (take (length file - 512 * k) (drop (512 * k) file)) i.record i.rest.now → Taken file k i
+taken : (file : List ℕ) (k : ℕ) (i : Item) → ParsesRecord (take (length file - 512 * k) (drop (512 * k) file)) i.record i.rest.now → IsItemOf file k i
 taken file k i parsed =
     let rest = take_rest file (512 * k) in
     let next : 512 * k + 512 ≡ 512 * suc k = omega arith in
@@ -53,7 +53,7 @@ pub invariant_of-self : goal.invariant_of-self
 invariant_of-self c =
     let self = c.args.self.now in
     let cut = c.in-Some.ensures.cases in
-    let said = next_previous self.file.now c.in-Some.block.now _ self.place (previous_of self.last) refl cut.same cut.enough self.kind self.used (shown c.in_ok-shape.shape) c.in_ok-shape.ensures.1 in
+    let said = next_previous self.file.now c.in-Some.block.now _ self.place (previous_of self.last) refl cut.same cut.enough self.kind self.used (previous_shape c.in_ok-shape.shape) c.in_ok-shape.ensures.1 in
     let long = whole self.file.now c.in-Some.block.now _ self.place (previous_of self.last) refl cut.same cut.enough self.kind self.used in
     record { within = omega (arith, long); kind = ap (λ (p : Previous). p.kind) said; used = ap (λ (p : Previous). p.used) said }
 
