@@ -1,15 +1,12 @@
 -- Hexadecimal digits: what a character stands for, the first place without one, and what a row of them writes.
-use Rattle.std.specs.Prelude.{ℕ, ◌+◌, ◌-◌, ◌*◌, cond, ◌&&◌, List, [], ◌∷◌, map, position, is_none, Some, None, Option, nat_le}
+use Rattle.std.specs.Prelude.{ℕ, ◌+◌, ◌-◌, ◌*◌, if◌then◌else◌, ◌&&◌, List, [], ◌∷◌, map, position, is_none, Some, None, Option, nat_le}
 use Rattle.std.specs.Option.{unwrap_or}
 use Rattle.field.specs.Digits.{numeral}
 
 -- a character by its code: '0' to '9' are 48 to 57, 'a' to 'f' are 97 to 102, 'A' to 'F' are 65 to 70
 abbrev pub digit_of : ℕ → Option ℕ
 digit_of c =
-    cond (nat_le 48 c && nat_le c 57) (Some (c - 48))
-    (cond (nat_le 97 c && nat_le c 102) (Some (c - 97 + 10))
-    (cond (nat_le 65 c && nat_le c 70) (Some (c - 65 + 10))
-    None))
+    if nat_le 48 c && nat_le c 57 then Some (c - 48) else if nat_le 97 c && nat_le c 102 then Some (c - 97 + 10) else if nat_le 65 c && nat_le c 70 then Some (c - 65 + 10) else None
 
 -- for a row of digits, where the 0 is never used
 abbrev pub value_of : ℕ → ℕ

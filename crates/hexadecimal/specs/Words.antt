@@ -1,5 +1,5 @@
 -- What each call answers to a text: the length is looked at first, then the digits from the left, then the room.
-use Rattle.std.specs.Prelude.{◌≡◌, ℕ, ◌/◌, ◌%◌, cond, List, ◌++◌, length, drop, Some, None, Ok, Err, Option, Result, ◌==◌, nat_le}
+use Rattle.std.specs.Prelude.{◌≡◌, ℕ, ◌/◌, ◌%◌, if◌then◌else◌, List, ◌++◌, length, drop, Some, None, Ok, Err, Option, Result, ◌==◌, nat_le}
 use Rattle.field.specs.Kinds.{block}
 use Rattle.field.specs.declared.block.Block.{Block}
 use Rattle.hexadecimal.specs.declared.HexFault.{HexFault}
@@ -14,18 +14,13 @@ unless_bad (Some i) answer = Err (NotADigit i)
 -- 32 digits
 abbrev pub block_in : List ℕ → Result Block HexFault
 block_in text =
-    cond (length text == 32)
-    (unless_bad (first_bad text) (Ok (block (number_in text))))
-    (Err (WrongLength (length text)))
+    if length text == 32 then unless_bad (first_bad text) (Ok (block (number_in text))) else Err (WrongLength (length text))
 
 -- how many bytes an even count of digits writes, where a row holds as many
 abbrev pub bytes_count : List ℕ → ℕ → Result ℕ HexFault
 bytes_count text room =
-    cond (length text % 2 == 0)
-    (unless_bad (first_bad text)
-    (cond (nat_le (length text / 2) room) (Ok (length text / 2))
-    (Err (RowTooShort (length text / 2)))))
-    (Err (WrongLength (length text)))
+    if length text % 2 == 0 then unless_bad (first_bad text)
+    (if nat_le (length text / 2) room then Ok (length text / 2) else Err (RowTooShort (length text / 2))) else Err (WrongLength (length text))
 
 -- The bytes of a text stand at the front of a row, and the rest is as before; or there was a fault, and all is as before.
 abbrev pub WritesBytes : List ℕ → List ℕ → List ℕ → Result ℕ HexFault → Type 0

@@ -1,5 +1,5 @@
 -- The plain job: it keeps the bytes of each part, and no engine.
-use Rattle.std.specs.Prelude.{ℕ, ◌+◌, Bool, cond, List, [], ◌∷◌, ◌++◌, length, is_ok, Ok, Err, Result, nat_le}
+use Rattle.std.specs.Prelude.{ℕ, ◌+◌, Bool, if◌then◌else◌, List, [], ◌∷◌, ◌++◌, length, is_ok, Ok, Err, Result, nat_le}
 use Rattle.engine.specs.Hashing.{switch_answer}
 use Rattle.refusal.specs.declared.Refusal.{Refusal}
 use Rattle.message.specs.Limits.{limit_of, part_refusal}
@@ -16,7 +16,7 @@ has_room part count piece = nat_le (count + length piece) (limit_of part)
 
 -- what a piece is answered after so many bytes: accepted within the limit, else the part's refusal
 abbrev pub answer_after : Part → ℕ → List ℕ → Answer
-answer_after part count piece = cond (has_room part count piece) (Ok tt) (Err (part_refusal part))
+answer_after part count piece = if has_room part count piece then Ok tt else Err (part_refusal part)
 
 -- whether the taken bytes and the piece together are within the part's limit
 abbrev pub fits : Part → List ℕ → List ℕ → Bool
@@ -27,7 +27,7 @@ feed_answer part taken piece = answer_after part (length taken) piece
 
 -- the bytes of the part after a feed: a piece is taken whole or not at all
 abbrev pub taken_after : Part → List ℕ → List ℕ → List ℕ
-taken_after part taken piece = cond (fits part taken piece) (taken ++ piece) taken
+taken_after part taken piece = if fits part taken piece then taken ++ piece else taken
 
 -- what a call is answered, by what was taken before it
 abbrev pub answer_to : Part → Bool → List ℕ → Call → Answer
@@ -36,7 +36,7 @@ answer_to part ready taken Switch = switch_answer ready
 
 -- the bytes that a call brought: a piece whose answer was acceptance
 abbrev pub call_bytes : Call → Answer → List ℕ
-call_bytes (Feed piece) answer = cond (is_ok answer) piece.now []
+call_bytes (Feed piece) answer = if is_ok answer then piece.now else []
 call_bytes Switch answer = []
 
 -- the accepted pieces of a list of calls, joined

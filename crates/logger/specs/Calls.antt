@@ -1,5 +1,5 @@
 -- What the calls of a C program answer.
-use Rattle.std.specs.Prelude.{◌≡◌, ℕ, ◌+◌, ◌-◌, ◌*◌, ◌^◌, cond, ◌⊎◌, List, ◌++◌, length, drop, ℤ, pos, negsuc, Ok, Err, Result, bit_or, nat_lt, fold}
+use Rattle.std.specs.Prelude.{◌≡◌, ℕ, ◌+◌, ◌-◌, ◌*◌, ◌^◌, if◌then◌else◌, ◌⊎◌, List, ◌++◌, length, drop, ℤ, pos, negsuc, Ok, Err, Result, bit_or, nat_lt, fold}
 use Rattle.field.specs.Bytes.{bytes_of}
 use Rattle.field.specs.Kinds.{block, block_ring}
 use Rattle.field.specs.declared.block.Block.{Block}
@@ -31,7 +31,7 @@ number_status (Err refusal) = refusal_status refusal
 
 -- the room for the answer is looked at last
 abbrev pub tag_call_answer : List ℕ → List ℕ → List ℕ → Result (Unit {0}) Refusal
-tag_call_answer header body output = within_limits header body (cond (nat_lt (length output) 32) (Err OutputTooShort) (Ok tt))
+tag_call_answer header body output = within_limits header body (if nat_lt (length output) 32 then Err OutputTooShort else Ok tt)
 
 -- what an accepted call writes, and a refused one does not
 abbrev pub output_if : Result (Unit {0}) Refusal → List ℕ → List ℕ → List ℕ

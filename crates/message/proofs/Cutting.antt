@@ -2,10 +2,9 @@
 use Rattle.std.proofs.Common.{◌≡◌, ℕ, zero, suc, ◌+◌, ◌<◌, ◌≤◌, min, ◌⊎◌, List, [], ◌∷◌, ◌++◌, length, take, drop, sym, refl, ap, ◌∙◌, ap₂, inl, inr, append-nil, arith, length-append}
 use native.Mathlib.Decide.{dec_le}
 use Rattle.std.proofs.lemmas.List.{take_at, drop_at, take_all, drop_all, nil_from_length}
-use Rattle.field.specs.Bytes.{block_of}
-use Rattle.message.specs.Blocks.{blocks_taken, filled_piece, cut, blocks, block_of_lengths, block_list}
+use Rattle.message.specs.Blocks.{block_from, blocks_taken, first_blocks, blocks, block_of_lengths, block_list}
 
-pub length_cut : (n : ℕ) (bytes : List ℕ) → length (cut n bytes) ≡ n
+pub length_cut : (n : ℕ) (bytes : List ℕ) → length (first_blocks n bytes) ≡ n
 length_cut zero bytes = refl
 length_cut (suc n) bytes = ap suc (length_cut n (drop 16 bytes))
 
@@ -22,7 +21,7 @@ length_block_list header body =
 
 pub blocks_none : (bytes : List ℕ) → length bytes ≡ 0 → blocks bytes ≡ []
 unfolding blocks
-blocks_none bytes empty = let e : blocks_taken (length bytes) ≡ 0 = omega arith in ap (λ (n : ℕ). cut n bytes) e
+blocks_none bytes empty = let e : blocks_taken (length bytes) ≡ 0 = omega arith in ap (λ (n : ℕ). first_blocks n bytes) e
 
 -- a piece of some width, shorter only where nothing follows
 abbrev pub Next : ℕ → List ℕ → List ℕ → Type 0
@@ -60,11 +59,11 @@ module _ (piece more : List ℕ) (size : length piece ≡ min 16 (length (piece 
   next : Next 16 piece more
   next = next_of 16 piece more size
 
-  pub blocks_more : blocks (piece ++ more) ≡ block_of (filled_piece piece) ∷ blocks more
+  pub blocks_more : blocks (piece ++ more) ≡ block_from piece ∷ blocks more
   unfolding blocks
   blocks_more =
       let whole = length-append piece more in
       let count : blocks_taken (length (piece ++ more)) ≡ suc (blocks_taken (length more)) =
       elim next [ inl full ↦ omega arith | inr short ↦ omega arith ] in
-      ap (λ (n : ℕ). cut n (piece ++ more)) count
-      ∙ ap₂ (λ (p ys : List ℕ). block_of (filled_piece p) ∷ cut (blocks_taken (length more)) ys) (take_next 16 piece more next) (drop_next 16 piece more next)
+      ap (λ (n : ℕ). first_blocks n (piece ++ more)) count
+      ∙ ap₂ (λ (p ys : List ℕ). block_from p ∷ first_blocks (blocks_taken (length more)) ys) (take_next 16 piece more next) (drop_next 16 piece more next)

@@ -1,13 +1,12 @@
 -- The pieces of a header and a body that are found one by one.
 use Rattle.std.proofs.Common.{◌≡◌, ℕ, zero, suc, ◌+◌, ◌-◌, ◌*◌, ◌<◌, ◌≤◌, List, [], ◌∷◌, ◌++◌, map, length, take, drop, Some, sym, refl, ap, ◌∙◌, ap₂, append_assoc, arith, length-drop, take-append-drop, lt-ltb}
 use mathlib.Core.List.{map-append}
-use Rattle.std.specs.List.{range_with_len}
+use Rattle.std.specs.List.{concat, range_with_len}
 use Rattle.std.proofs.lemmas.List.{drop-drop, nil_from_length}
 use Rattle.std.proofs.lemmas.Bool.{cond-true, cond-false, le-ltb}
-use Rattle.field.specs.Bytes.{block_of}
 use Rattle.field.specs.declared.block.Block.{Block}
-use Rattle.message.specs.Blocks.{blocks_taken, filled_piece, cut, blocks}
-use Rattle.message.specs.Finding.{block_place, bytes_at, block_pieces, concat, CoversMessage}
+use Rattle.message.specs.Blocks.{block_from, blocks_taken, first_blocks, blocks}
+use Rattle.message.specs.Finding.{block_place, bytes_at, block_pieces, CoversMessage}
 use Rattle.message.specs.declared.part.Part.TheVariants.{Header, Body}
 
 -- n pieces of one part, 16 bytes at a time
@@ -16,21 +15,21 @@ cut_bytes zero bytes = []
 cut_bytes (suc n) bytes = take 16 bytes ∷ cut_bytes n (drop 16 bytes)
 
 abbrev fill : List ℕ → Block
-fill piece = block_of (filled_piece piece)
+fill piece = block_from piece
 
-cut_filled : (n : ℕ) (bytes : List ℕ) → map fill (cut_bytes n bytes) ≡ cut n bytes
+cut_filled : (n : ℕ) (bytes : List ℕ) → map fill (cut_bytes n bytes) ≡ first_blocks n bytes
 cut_filled zero bytes = refl
 cut_filled (suc n) bytes = ap (λ ps. fill (take 16 bytes) ∷ ps) (cut_filled n (drop 16 bytes))
 
-cut_joined : (n : ℕ) (bytes : List ℕ) → length bytes ≤ 16 * n → concat (cut_bytes n bytes) ≡ bytes
-cut_joined zero bytes none = sym (nil_from_length bytes (omega arith))
-cut_joined (suc n) bytes within =
+concat_cut : (n : ℕ) (bytes : List ℕ) → length bytes ≤ 16 * n → concat (cut_bytes n bytes) ≡ bytes
+concat_cut zero bytes none = sym (nil_from_length bytes (omega arith))
+concat_cut (suc n) bytes within =
     let rest : length (drop 16 bytes) ≤ 16 * n = simp length-drop (omega arith) in
-    ap (λ xs. take 16 bytes ++ xs) (cut_joined n (drop 16 bytes) rest) ∙ take-append-drop 16 bytes
+    ap (λ xs. take 16 bytes ++ xs) (concat_cut n (drop 16 bytes) rest) ∙ take-append-drop 16 bytes
 
-joined_append : (xs ys : List (List ℕ)) → concat (xs ++ ys) ≡ concat xs ++ concat ys
-joined_append [] ys = refl
-joined_append (x ∷ xs) ys = ap (λ zs. x ++ zs) (joined_append xs ys) ∙ sym (append_assoc x (concat xs) (concat ys))
+concat_append : (xs ys : List (List ℕ)) → concat (xs ++ ys) ≡ concat xs ++ concat ys
+concat_append [] ys = refl
+concat_append (x ∷ xs) ys = ap (λ zs. x ++ zs) (concat_append xs ys) ∙ sym (append_assoc x (concat xs) (concat ys))
 
 counting_append : (a m n : ℕ) → range_with_len a (m + n) ≡ range_with_len a m ++ range_with_len (a + m) n
 counting_append a zero n =
@@ -93,10 +92,10 @@ module _ (header body : List ℕ) where
   pub covered : CoversMessage header body
   unfolding blocks
   covered = record {
-    filled_piece =
+    filled =
         ap (map fill) all_pieces ∙ map-append fill (cut_bytes in_header header) (cut_bytes in_body body)
         ∙ ap₂ (λ xs ys. xs ++ ys) (cut_filled in_header header) (cut_filled in_body body);
     bytes =
-        ap concat all_pieces ∙ joined_append (cut_bytes in_header header) (cut_bytes in_body body)
-        ∙ ap₂ (λ xs ys. xs ++ ys) (cut_joined in_header header (omega arith)) (cut_joined in_body body (omega arith));
+        ap concat all_pieces ∙ concat_append (cut_bytes in_header header) (cut_bytes in_body body)
+        ∙ ap₂ (λ xs ys. xs ++ ys) (concat_cut in_header header (omega arith)) (concat_cut in_body body (omega arith));
   }

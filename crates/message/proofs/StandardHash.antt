@@ -9,12 +9,14 @@ use Rattle.field.specs.Digits.{numeral, digits}
 use Rattle.field.specs.Evaluation.{eval, horner}
 use Rattle.field.specs.Kinds.{block_ring}
 use Rattle.field.specs.declared.block.Block.{Block}
+use Rattle.message.specs.Answer.{digest_of}
+use Rattle.message.specs.declared.digest.Pad.{Pad}
 use Rattle.field.proofs.Digits.{length_digits, digits_mod}
 use Rattle.field.proofs.Horner.{horner_eval}
 use Rattle.field.specs.Instances.{block_ring_laws, block_sum_bits, block_product_bits}
-use Rattle.message.specs.Blocks.{AreBytes, blocks_taken, filled_piece, cut, blocks, block_of_lengths, block_of_counts, block_list}
-use Rattle.message.specs.Hash.{hash_of, tag_of}
-use Rattle.message.specs.Standard.{bits, string, zeros, xor, product, ghash_from, ghash, padded_string_string, message, block_string, MeetsStandard}
+use Rattle.message.specs.Blocks.{AreBytes, block_from, blocks_taken, filled_piece, first_blocks, blocks, block_of_lengths, block_of_counts, block_list}
+use Rattle.message.specs.Hash.{hash_of}
+use Rattle.message.specs.Standard.{bits, string, zeros, xor, product, ghash_from, ghash, padded_string, message, block_string, MeetsStandard}
 use Rattle.message.proofs.Strings.{xor_bits, string_append, length_string, string_zeros, string_digits, string_number}
 use Rattle.message.proofs.StandardProduct.{product_bits, zeros_bits}
 
@@ -99,7 +101,7 @@ filled_same xs small short =
     let whole : length (filled_piece xs) ≡ 16 = length-append xs (replicate (16 - length xs) 0) ∙ ap (λ (n : ℕ). length xs + n) (length-replicate (16 - length xs) 0) ∙ omega arith in
     block_string_same (filled_piece xs) (small_append xs (replicate (16 - length xs) 0) small (small_zeros (16 - length xs))) whole
 
-pub first_same : (xs : List ℕ) → AreBytes xs → block_string (block_of (filled_piece (take 16 xs))) ≡ string (filled_piece (take 16 xs))
+pub first_same : (xs : List ℕ) → AreBytes xs → block_string (block_from (take 16 xs)) ≡ string (filled_piece (take 16 xs))
 first_same xs small = filled_same (take 16 xs) (small_take 16 xs small) (rw length-take (omega arith))
 
 filled_string : (xs : List ℕ) → AreBytes xs → length xs ≤ 16 → block_string (block_of (filled_piece xs)) ≡ string xs ++ zeros (8 * (16 - length xs))
@@ -110,7 +112,7 @@ filled_string xs small short =
 
 -- n blocks of a part, the last of which may be short
 cut_string : (n : ℕ) (xs : List ℕ) → AreBytes xs → length xs ≤ 16 * n → 16 * n < length xs + 16
-    → joined (cut n xs) ≡ string xs ++ zeros (8 * (16 * n - length xs))
+    → joined (first_blocks n xs) ≡ string xs ++ zeros (8 * (16 * n - length xs))
 unfolding string
 cut_string zero [] small low high = refl
 cut_string zero (x ∷ xs) small low high = absurd (omega arith)
@@ -120,7 +122,7 @@ cut_string (suc n) xs small low high =
           let full : length (take 16 xs) ≡ 16 = length-take-le 16 xs h in
           let rest : length (drop 16 xs) ≡ length xs - 16 = length-drop 16 xs in
           let left : 16 * n - length (drop 16 xs) ≡ 16 * suc n - length xs = omega arith in
-          let first : block_string (block_of (filled_piece (take 16 xs))) ≡ string (take 16 xs) =
+          let first : block_string (block_from (take 16 xs)) ≡ string (take 16 xs) =
           filled_string (take 16 xs) (small_take 16 xs small) (omega arith)
           ∙ ap (λ (k : ℕ). string (take 16 xs) ++ zeros (8 * (16 - k))) full
           ∙ append-nil (string (take 16 xs)) in
@@ -134,13 +136,13 @@ cut_string (suc n) xs small low high =
           let last : n ≡ 0 = omega arith in
           let left : 16 - length xs ≡ 16 * suc n - length xs = omega arith in
           let short : length xs ≤ 16 = omega arith in
-          ap₂ (λ (k : ℕ) (p : List ℕ). block_string (block_of (filled_piece p)) ++ joined (cut k (drop 16 xs))) last (take_all 16 xs short)
+          ap₂ (λ (k : ℕ) (p : List ℕ). block_string (block_from p) ++ joined (first_blocks k (drop 16 xs))) last (take_all 16 xs short)
           ∙ append-nil (block_string (block_of (filled_piece xs)))
           ∙ filled_string xs small short
           ∙ ap (λ (k : ℕ). string xs ++ zeros (8 * k)) left
     ]
 
-part_string : (xs : List ℕ) → AreBytes xs → joined (blocks xs) ≡ padded_string_string (string xs)
+part_string : (xs : List ℕ) → AreBytes xs → joined (blocks xs) ≡ padded_string (string xs)
 unfolding blocks
 part_string xs small =
     let n : ℕ = length xs in
@@ -177,8 +179,8 @@ message_string header body small small' =
     ∙ ap₂ (λ (s t : List ℕ). s ++ t) (part_string body small')
     (append-nil (block_string (block_of_lengths header body)) ∙ lengths_string header body))
 
-pub meets_standard : (subkey pad : Block) (header body : List ℕ) → AreBytes header → AreBytes body
-    → MeetsStandard subkey pad header body (hash_of subkey header body) (tag_of subkey pad header body)
+pub meets_standard : (subkey : Block) (pad : Pad) (header body : List ℕ) → AreBytes header → AreBytes body
+    → MeetsStandard subkey pad header body (digest_of subkey pad header body)
 unfolding hash_of
 meets_standard subkey pad header body small small' =
     let hash : Block = eval block_ring subkey (block_list header body) in
@@ -187,6 +189,6 @@ meets_standard subkey pad header body small small' =
     record {
       hashed = sym same;
       tagged =
-          ap (bits 128) (block_sum_bits hash pad)
-          ∙ sym (ap (λ (s : List ℕ). xor s (block_string pad)) same ∙ xor_bits 128 hash.bits pad.bits);
+          ap (bits 128) (block_sum_bits hash pad.0)
+          ∙ sym (ap (λ (s : List ℕ). xor s (block_string pad.0)) same ∙ xor_bits 128 hash.bits pad.0.bits);
     }

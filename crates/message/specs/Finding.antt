@@ -1,9 +1,8 @@
 -- Where each block of a header and a body stands.
-use Rattle.std.specs.Prelude.{◌≡◌, ℕ, ◌+◌, ◌-◌, ◌*◌, cond, List, [], ◌∷◌, ◌++◌, map, length, take, drop, Some, None, Option, nat_lt}
-use Rattle.std.specs.List.{range_with_len}
-use Rattle.field.specs.Bytes.{block_of}
-use Rattle.message.specs.Blocks.{blocks_taken, filled_piece, blocks}
-use Rattle.message.specs.declared.finder.Found.{Found}
+use Rattle.std.specs.Prelude.{◌≡◌, ℕ, ◌+◌, ◌-◌, ◌*◌, if◌then◌else◌, List, [], ◌++◌, map, length, take, drop, Some, None, Option, nat_lt}
+use Rattle.std.specs.List.{concat, range_with_len}
+use Rattle.message.specs.Blocks.{block_from, blocks_taken, blocks}
+use Rattle.message.specs.declared.found.Found.{Found}
 use Rattle.message.specs.declared.part.Part.{Part}
 use Rattle.message.specs.declared.part.Part.TheVariants.{Header, Body}
 
@@ -14,9 +13,9 @@ module _ (header body : List ℕ) where
   -- the part of block n, and the offset in it
   abbrev pub block_place : ℕ → Option (Part × ℕ)
   block_place n =
-      cond (nat_lt n (blocks_taken (length header))) (Some (Header, 16 * n))
-      (cond (nat_lt n block_count) (Some (Body, 16 * (n - blocks_taken (length header))))
-      None)
+      if nat_lt n (blocks_taken (length header)) then Some (Header, 16 * n)
+      else if nat_lt n block_count then Some (Body, 16 * (n - blocks_taken (length header)))
+      else None
 
   abbrev pub part_bytes : Part → List ℕ
   part_bytes Header = header
@@ -36,11 +35,7 @@ module _ (header body : List ℕ) where
   abbrev pub block_pieces : List (List ℕ)
   block_pieces = map (λ n. bytes_at (block_place n)) (range_with_len 0 block_count)
 
-abbrev pub concat : List (List ℕ) → List ℕ
-concat [] = []
-concat (xs ∷ more) = xs ++ concat more
-
 -- The blocks found, filled with zeros, are those that are hashed, and every byte stands in one of them, in order.
 pub record CoversMessage (header body : List ℕ) : Type 0 where
-  pub filled : map (λ piece. block_of (filled_piece piece)) (block_pieces header body) ≡ blocks header ++ blocks body
+  pub filled : map block_from (block_pieces header body) ≡ blocks header ++ blocks body
   pub bytes : concat (block_pieces header body) ≡ header ++ body

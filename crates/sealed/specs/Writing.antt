@@ -1,5 +1,5 @@
 -- What a writer answers, and what stands in its output then.
-use Rattle.std.specs.Prelude.{◌≡◌, ℕ, ◌*◌, ◌≤◌, cond, List, ◌++◌, length, drop, Ok, Err, Result, MatchResult, nat_le}
+use Rattle.std.specs.Prelude.{◌≡◌, ℕ, ◌*◌, ◌≤◌, if◌then◌else◌, List, ◌++◌, length, drop, Ok, Err, Result, MatchResult, nat_le}
 use Rattle.field.specs.Bytes.{bytes_of}
 use Rattle.field.specs.declared.block.Block.{Block}
 use Rattle.message.specs.Limits.{header_limit}
@@ -16,12 +16,7 @@ use Rattle.sealed.specs.declared.sealed.Sealed.{Sealed}
 -- by lengths: the header's limit, the most blocks of a file, and the output's room; else the count of blocks
 abbrev pub room_answer : ℕ → ℕ → ℕ → Result ℕ Refusal
 room_answer header body output =
-    cond (nat_le header header_limit)
-    (cond (nat_le (blocks_for header body) 65536)
-    (cond (nat_le (512 * blocks_for header body) output) (Ok (blocks_for header body))
-    (Err OutputTooShort))
-    (Err FileSize))
-    (Err HeaderTooLong)
+    if nat_le header header_limit then if nat_le (blocks_for header body) 65536 then if nat_le (512 * blocks_for header body) output then Ok (blocks_for header body) else Err OutputTooShort else Err FileSize else Err HeaderTooLong
 
 abbrev pub seal_answer : Block → Block → List ℕ → List ℕ → ℕ → Result Sealed Refusal
 seal_answer subkey pad header body output =

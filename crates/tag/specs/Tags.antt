@@ -1,5 +1,5 @@
 -- The tag of a whole message, the check of a tag, and what the engine is after each.
-use Rattle.std.specs.Prelude.{◌≡◌, ℕ, Bool, cond, ◌&&◌, List, ◌∷◌, map, length, take, Ok, Err, MatchBool, Result, ◌==◌, nat_le}
+use Rattle.std.specs.Prelude.{◌≡◌, ℕ, Bool, if◌then◌else◌, ◌&&◌, List, ◌∷◌, map, length, take, Ok, Err, MatchBool, Result, ◌==◌, nat_le}
 use Rattle.std.specs.Str.{bytes_eq}
 use Rattle.field.specs.Bytes.{bytes_of}
 use Rattle.field.specs.Kinds.{block_ring}
@@ -24,9 +24,7 @@ begins_tag tag given = bytes_eq given (take (length given) (bytes_of tag))
 -- the length of the given tag is looked at first
 abbrev pub check_answer : Block → Block → List ℕ → List ℕ → List ℕ → Result (Unit {0}) Refusal
 check_answer subkey pad header body given =
-    cond (tag_length given)
-    (within_limits header body (cond (begins_tag (tag_of subkey pad header body) given) (Ok tt) (Err TagDiffers)))
-    (Err TagLength)
+    if tag_length given then within_limits header body (if begins_tag (tag_of subkey pad header body) given then Ok tt else Err TagDiffers) else Err TagLength
 
 module _ {E : Type 0} (m : Ghosts E) where
   -- From zero, one absorb for each block of the block list and nothing else: T is the hash, H and ready are as before.

@@ -3,10 +3,10 @@ ghost use Rattle.std.specs.Prelude.{◌≡◌, length, take};
 ghost use Rattle.field.specs.Bytes.{block_of};
 ghost use Rattle.field.specs.Evaluation.{horner};
 ghost use Rattle.field.specs.Kinds.{block_ring};
-ghost use Rattle.message.specs.Blocks.{filled_piece, blocks, blocks_taken, block_of_counts};
+ghost use Rattle.message.specs.Blocks.{block_of_counts, blocks, blocks_taken, filled_piece};
 ghost use Rattle.message.specs.Standard.{block_string, string};
 
-use field::{Block, Element, evaluate};
+use field::{Block, evaluate};
 
 // The first 16 bytes; a shorter piece is filled with zeros.
 fn fill(piece: &[u8]) -> [u8; 16]
@@ -29,7 +29,7 @@ pub fn block_of(piece: &[u8]) -> Block
     Block::from_bytes(fill(piece))
 }
 
-// The value after the blocks of one part, each taken in by (value + block)·subkey: the recursion itself, to which engines are held.
+// The value after the blocks of one part, each taken in by (value + block) * subkey.
 pub(crate) fn absorb_part(subkey: Block, start: Block, part: &[u8]) -> Block
     ensures { result ≡ horner block_ring subkey start (blocks part.now) }
 {
@@ -38,7 +38,7 @@ pub(crate) fn absorb_part(subkey: Block, start: Block, part: &[u8]) -> Block
     if rest.is_empty() {
         return value;
     }
-    value.absorb(block_of(rest), subkey)
+    (value + block_of(rest)) * subkey
 }
 
 // How many blocks of 16 bytes a part takes.
@@ -48,7 +48,8 @@ pub(crate) fn blocks_in(part: &[u8]) -> usize
     part.len().div_ceil(16)
 }
 
-// Both lengths, handed in bytes, in bits, the header's in the higher half. Two numbers, and no struct: one block is made of both.
+/// The length block: both lengths, handed in bytes, are written in bits, eight bytes each, high byte first, the header's first
+/// (NIST SP 800-38D, section 7.1, step 4).
 pub fn block_of_byte_counts(header: u64, body: u64) -> Block
     ensures { result ≡ block_of_counts header body }
 {

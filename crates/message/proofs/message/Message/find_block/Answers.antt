@@ -1,5 +1,5 @@
 use Rattle.message.proofs.Finding.{covered}
-use Rattle.message.proofs.part.Message.find_block.Goals as goal
+use Rattle.message.proofs.message.Message.find_block.Goals as goal
 
 pub returns-then-n-before-clause-law : goal.returns-then-n-before-clause-law
 returns-then-n-before-clause-law c = covered _ _

@@ -3,7 +3,7 @@ use Rattle.field.specs.Bytes.{block_of}
 use Rattle.message.specs.Blocks.{AreBytes}
 use Rattle.message.specs.Standard.{block_string}
 use Rattle.message.proofs.StandardHash.{first_same}
-use Rattle.message.proofs.absorb.block_of.Goals as goal
+use Rattle.message.proofs.blocks.block_of.Goals as goal
 
 pub returns-clause-standard : goal.returns-clause-standard
 returns-clause-standard c =

@@ -3,7 +3,7 @@ use Rattle.field.specs.Digits.{numeral, digits}
 use Rattle.field.specs.Kinds.{block}
 use Rattle.field.proofs.Digits.{length_digits, numeral_append, numeral_digits}
 use Rattle.message.specs.Blocks.{block_of_counts}
-use Rattle.message.proofs.absorb.block_of_byte_counts.Goals as goal
+use Rattle.message.proofs.blocks.block_of_byte_counts.Goals as goal
 
 -- two numbers of eight bytes, written one after the other
 halves : (a b : ℕ) → numeral 256 (digits 256 8 (8 * a) ++ digits 256 8 (8 * b)) ≡ 8 * a % 2 ^ 64 * 2 ^ 64 + 8 * b % 2 ^ 64

@@ -10,7 +10,7 @@ use Rattle.field.proofs.Horner.{horner_append, horner_from}
 use Rattle.message.specs.Blocks.{blocks}
 use Rattle.message.proofs.Cutting.{blocks_none}
 use Rattle.message.proofs.Pieces.{blocks_whole, blocks_short}
-use Rattle.message.proofs.absorb.absorb_part.Goals as goal
+use Rattle.message.proofs.blocks.absorb_part.Goals as goal
 
 abbrev after : Block → Block → List Block → Block
 after subkey v ps = horner block_ring subkey v ps
@@ -38,7 +38,8 @@ returns c =
     let v : Block = c.evaluate-value.result in
     let some : 0 < length rest = omega (arith, eqb-false _ _ (sym c.is_empty.ensures ∙ c.if-is_empty.false)) in
     let short : length rest < 16 = omega (arith, c.as_chunks.ensures.back_len) in
-    c.absorb.ensures
+    c.mul.ensures
+    ∙ ap (λ (s : Block). block_ring.product s c.args.subkey) c.add.ensures
     ∙ ap (λ (b : Block). block_ring.product (block_ring.sum v b) c.args.subkey) c.block_of.ensures.value
     ∙ sym (ap (after c.args.subkey v) (blocks_short rest some short))
     ∙ in_two c.args.subkey c.args.start v c.args.part.now rest _ c.as_chunks.ensures.front c.as_chunks.ensures.back c.evaluate-value.ensures
