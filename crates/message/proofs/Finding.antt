@@ -93,7 +93,7 @@ module _ (header body : List ℕ) where
   pub covered : CoversMessage header body
   unfolding blocks
   covered = record {
-    filled_piece =
+    filled =
         ap (map fill) all_pieces ∙ map-append fill (cut_bytes in_header header) (cut_bytes in_body body)
         ∙ ap₂ (λ xs ys. xs ++ ys) (cut_filled in_header header) (cut_filled in_body body);
     bytes =
