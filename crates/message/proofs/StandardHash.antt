@@ -3,6 +3,8 @@ use Rattle.std.proofs.Common.{◌≡◌, ℕ, zero, suc, ◌+◌, ◌-◌, ◌*�
 use native.Mathlib.Decide.{dec_le}
 use native.Mathlib.Nat.{div-div-eq-div-mul}
 use lib.ListN.{length-replicate}
+use Rattle.std.specs.List.{flat_map}
+use Rattle.std.proofs.lemmas.List.Concat.{flat_map-append}
 use Rattle.std.proofs.lemmas.List.{take_at, drop_at, take_all, length-take-le}
 use Rattle.field.specs.Bytes.{block_of}
 use Rattle.field.specs.Digits.{numeral, digits}
@@ -22,12 +24,7 @@ use Rattle.message.proofs.StandardProduct.{product_bits, zeros_bits}
 
 -- blocks one after the other, as a string
 abbrev joined : List Block → List ℕ
-joined [] = []
-joined (p ∷ ps) = block_string p ++ joined ps
-
-joined_append : (ps qs : List Block) → joined (ps ++ qs) ≡ joined ps ++ joined qs
-joined_append [] qs = refl
-joined_append (p ∷ ps) qs = ap (λ (s : List ℕ). block_string p ++ s) (joined_append ps qs) ∙ sym (append_assoc (block_string p) (joined ps) (joined qs))
+joined ps = flat_map block_string ps
 
 length_joined : (ps : List Block) → length (joined ps) ≡ length ps * 128
 length_joined [] = refl
@@ -173,9 +170,9 @@ lengths_string header body =
 message_string : (header body : List ℕ) → AreBytes header → AreBytes body → joined (block_list header body) ≡ message (string header) (string body)
 unfolding message
 message_string header body small small' =
-    joined_append (blocks header) (blocks body ++ (block_of_lengths header body ∷ []))
+    flat_map-append block_string (blocks header) (blocks body ++ (block_of_lengths header body ∷ []))
     ∙ ap₂ (λ (s t : List ℕ). s ++ t) (part_string header small)
-    (joined_append (blocks body) (block_of_lengths header body ∷ [])
+    (flat_map-append block_string (blocks body) (block_of_lengths header body ∷ [])
     ∙ ap₂ (λ (s t : List ℕ). s ++ t) (part_string body small')
     (append-nil (block_string (block_of_lengths header body)) ∙ lengths_string header body))
 
