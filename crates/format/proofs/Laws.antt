@@ -10,6 +10,7 @@ use Rattle.field.proofs.Digits.{length_digits, numeral_digits, digits_numeral}
 use Rattle.message.specs.Limits.{header_limit}
 use Rattle.message.specs.Blocks.{AreBytes}
 use Rattle.message.specs.Hash.{tag_of}
+use Rattle.message.specs.declared.digest.Pad.{Pad}
 use Rattle.refusal.specs.declared.Refusal.TheVariants.{TagDiffers}
 use Rattle.format.specs.Layout.{Content, contents, numbered_blocks, sealed_file, blocks_for}
 use Rattle.format.specs.Faults.{first, rows_of, blocks_of, is_size_good, scan_result, data_of, header_in, body_in, tag_in}
@@ -24,16 +25,16 @@ use Rattle.format.proofs.Scans.{scan_numbered, block_rows, length_numbered_all, 
 
 -- ---- what is read out of a sealed file
 
-module _ (subkey pad : Block) (header body : List ℕ) where
+module _ (subkey : Block) (pad : Pad) (header body : List ℕ) where
   -- the tag's bytes, and what the blocks carry
   abbrev tag : List ℕ
-  tag = bytes_of (tag_of subkey pad header body)
+  tag = bytes_of (tag_of subkey pad header body).0
 
   abbrev carried : List Content
   carried = contents header body tag
 
   carried_follow : Follows first carried
-  carried_follow = contents_follow header body tag (length_digits 256 16 (tag_of subkey pad header body).bits)
+  carried_follow = contents_follow header body tag (length_digits 256 16 (tag_of subkey pad header body).0.bits)
 
   length_carried : length (sealed_file subkey pad header body) ≡ 512 * length carried
   unfolding sealed_file
@@ -68,17 +69,17 @@ module _ (subkey pad : Block) (header body : List ℕ) where
 
 -- ---- a sealed file is accepted
 
-module _ (subkey pad : Block) (header body : List ℕ) where
+module _ (subkey : Block) (pad : Pad) (header body : List ℕ) where
   -- the tag read out of it is the tag of the parts read out of it
   tag_sealed : tag_verdict subkey pad (sealed_file subkey pad header body) ≡ Ok (lengths_of header body)
   tag_sealed =
       let file : List ℕ = sealed_file subkey pad header body in
-      let t : Block = tag_of subkey pad header body in
-      let right : numeral 256 (tag_in file) ≡ (tag_of subkey pad (header_in file) (body_in file)).bits =
+      let t : Block = (tag_of subkey pad header body).0 in
+      let right : numeral 256 (tag_in file) ≡ (tag_of subkey pad (header_in file) (body_in file)).0.bits =
       ap (numeral 256) (sealed_tag subkey pad header body)
       ∙ numeral_digits 256 (lit< tt) 16 t.bits
       ∙ mod-eq_of_lt t.fits
-      ∙ sym (ap₂ (λ (h b : List ℕ). (tag_of subkey pad h b).bits) (sealed_header subkey pad header body) (sealed_body subkey pad header body)) in
+      ∙ sym (ap₂ (λ (h b : List ℕ). (tag_of subkey pad h b).0.bits) (sealed_header subkey pad header body) (sealed_body subkey pad header body)) in
       grind (arith, nat_tests, right)
       ∙ ap₂ (λ (h b : List ℕ). Ok (lengths_of h b)) (sealed_header subkey pad header body) (sealed_body subkey pad header body)
 
@@ -103,15 +104,15 @@ module _ (subkey pad : Block) (header body : List ℕ) where
 -- ---- an accepted file is sealed
 
 -- what the check found of a file that it accepts
-record Accepted (subkey pad : Block) (file : List ℕ) (lens : Lengths) : Type 0 where
+record Accepted (subkey : Block) (pad : Pad) (file : List ℕ) (lens : Lengths) : Type 0 where
   pub through : Passed file
-  pub tagged : numeral 256 (tag_in file) ≡ (tag_of subkey pad (header_in file) (body_in file)).bits
+  pub tagged : numeral 256 (tag_in file) ≡ (tag_of subkey pad (header_in file) (body_in file)).0.bits
   pub read : lens ≡ lengths_of (header_in file) (body_in file)
 
-accepted_parts : (subkey pad : Block) (file : List ℕ) (lens : Lengths) → verdict subkey pad file ≡ Ok lens → Accepted subkey pad file lens
+accepted_parts : (subkey : Block) (pad : Pad) (file : List ℕ) (lens : Lengths) → verdict subkey pad file ≡ Ok lens → Accepted subkey pad file lens
 accepted_parts subkey pad file lens e =
     let told : Lengths = lengths_of (header_in file) (body_in file) in
-    let tag : Block = tag_of subkey pad (header_in file) (body_in file) in
+    let tag : Block = (tag_of subkey pad (header_in file) (body_in file)).0 in
     let two = came (first_pass file) (λ _. tag_verdict subkey pad file) lens e in
     let same = test_passed (eqb (numeral 256 (tag_in file)) tag.bits) (Ok told) TagDiffers lens two.2 in
     record {
@@ -121,7 +122,7 @@ accepted_parts subkey pad file lens e =
     }
 
 -- a file of bytes that the check accepts is the sealed file of the parts read out of it
-pub accepted_sealed : (subkey pad : Block) (file : List ℕ) (lens : Lengths) → AreBytes file → verdict subkey pad file ≡ Ok lens
+pub accepted_sealed : (subkey : Block) (pad : Pad) (file : List ℕ) (lens : Lengths) → AreBytes file → verdict subkey pad file ≡ Ok lens
     → file ≡ sealed_file subkey pad (header_in file) (body_in file)
 unfolding blocks_of sealed_file
 accepted_sealed subkey pad file lens small e =
@@ -133,21 +134,21 @@ accepted_sealed subkey pad file lens small e =
     let ordered : Whole cs = in_order first cs found.1 (omega arith) in
     let part : (kind : ℕ) → part_of kind cs ≡ data_of kind (rows_of m file) = λ kind. sym (data_part kind (rows_of m file)) in
     let sixteen : length (tag_in file) ≡ 16 = sym (ap length (part 3)) ∙ ordered.1 in
-    let last : tag_in file ≡ bytes_of (tag_of subkey pad (header_in file) (body_in file)) =
+    let last : tag_in file ≡ bytes_of (tag_of subkey pad (header_in file) (body_in file)).0 =
     sym (digits_numeral 256 (lit< tt) (tag_in file) (read_small 3 file small)) ∙ ap₂ (digits 256) sixteen a.tagged in
     found.0
     ∙ ap (numbered_blocks 0) (ordered.0 ∙ (λ i. contents (part 1 i) (part 2 i) ((part 3 ∙ last) i)))
 
 -- ---- both directions
 
-pub reopens : (subkey pad : Block) (header body : List ℕ) → length header ≤ 65535 → blocks_for (length header) (length body) ≤ 65536 → Reopens subkey pad header body
+pub reopens : (subkey : Block) (pad : Pad) (header body : List ℕ) → length header ≤ 65535 → blocks_for (length header) (length body) ≤ 65536 → Reopens subkey pad header body
 reopens subkey pad header body short count = record {
   accepted = sealed_accepted subkey pad header body short count;
   header_again = sealed_header subkey pad header body;
   body_again = sealed_body subkey pad header body;
 }
 
-module _ (subkey pad : Block) (file : List ℕ) (small : AreBytes file) where
+module _ (subkey : Block) (pad : Pad) (file : List ℕ) (small : AreBytes file) where
   -- an accepted file is what the writer makes
   pub accepted_seal : (lens : Lengths) → verdict subkey pad file ≡ Ok lens → IsSealOf subkey pad (header_in file) (body_in file) file
   accepted_seal lens e =

@@ -8,6 +8,7 @@ use Rattle.field.specs.declared.block.Block.{Block}
 use Rattle.field.proofs.Digits.{numeral_digits}
 use Rattle.message.specs.Blocks.{AreBytes}
 use Rattle.message.specs.Hash.{tag_of}
+use Rattle.message.specs.declared.digest.Pad.{Pad}
 use Rattle.refusal.specs.declared.Refusal.{Refusal}
 use Rattle.refusal.specs.declared.Refusal.TheVariants.{HeaderTooLong, TagDiffers}
 use Rattle.format.specs.Faults.{header_in, body_in, tag_in}
@@ -19,9 +20,9 @@ use Rattle.format.proofs.FirstPass.{first_refuses, too_long, first_passes}
 use Rattle.format.proofs.Laws.{sealed_tag, accepted_sealed, seal_accepted}
 use Rattle.format.proofs.ScanFaults.{told, pass_or_fault}
 
-module _ (subkey pad : Block) (file : List ℕ) where
+module _ (subkey : Block) (pad : Pad) (file : List ℕ) where
   abbrev tag : Block
-  tag = tag_of subkey pad (header_in file) (body_in file)
+  tag = (tag_of subkey pad (header_in file) (body_in file)).0
 
   abbrev is_tag_same : Bool
   is_tag_same = eqb (numeral 256 (tag_in file)) tag.bits

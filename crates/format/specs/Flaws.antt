@@ -4,6 +4,7 @@ use Rattle.field.specs.Bytes.{bytes_of}
 use Rattle.field.specs.declared.block.Block.{Block}
 use Rattle.message.specs.Limits.{header_limit}
 use Rattle.message.specs.Hash.{tag_of}
+use Rattle.message.specs.declared.digest.Pad.{Pad}
 use Rattle.refusal.specs.declared.Refusal.{Refusal}
 use Rattle.refusal.specs.declared.Refusal.TheVariants.{HeaderTooLong, TagDiffers, FileSize, WrongCheck, WrongNumber, WrongForm, WrongOrder, NoEnd}
 use Rattle.format.specs.Layout.{check_of}
@@ -133,13 +134,13 @@ pub record HasLongHeader (file : List ℕ) : Type 0 where
   pub long : header_limit < length (header_in file)
 
 -- A file that passes the scan and has a header within its limit, but holds another tag than it should.
-pub record HoldsOtherTag (subkey pad : Block) (file : List ℕ) : Type 0 where
+pub record HoldsOtherTag (subkey : Block) (pad : Pad) (file : List ℕ) : Type 0 where
   pub scan : PassesScan file
   pub short : length (header_in file) ≤ header_limit
-  pub other : tag_in file ≢ bytes_of (tag_of subkey pad (header_in file) (body_in file))
+  pub other : tag_in file ≢ bytes_of (tag_of subkey pad (header_in file) (body_in file)).0
 
 -- why the check refuses a file: as the scan does, else for its header's length, else for its tag
-abbrev pub IsFault : Block → Block → List ℕ → Refusal → Type 0
+abbrev pub IsFault : Block → Pad → List ℕ → Refusal → Type 0
 IsFault subkey pad file HeaderTooLong = HasLongHeader file
 IsFault subkey pad file TagDiffers = HoldsOtherTag subkey pad file
 IsFault subkey pad file other = IsScanFault file other

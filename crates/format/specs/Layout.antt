@@ -6,6 +6,7 @@ use Rattle.field.specs.Evaluation.{eval}
 use Rattle.field.specs.Kinds.{word, word_ring}
 use Rattle.field.specs.declared.block.Block.{Block}
 use Rattle.message.specs.Hash.{tag_of}
+use Rattle.message.specs.declared.digest.Pad.{Pad}
 
 -- What one block carries: its kind (1 header, 2 body, 3 end) and its data.
 pub record Content : Type 0 where
@@ -53,8 +54,8 @@ numbered_blocks n [] = []
 numbered_blocks n (c ∷ cs) = block_bytes n c ++ numbered_blocks (suc n) cs
 
 -- the file that seals a header and a body under a subkey and a pad
-unfoldable pub sealed_file : Block → Block → List ℕ → List ℕ → List ℕ
-sealed_file subkey pad header body = numbered_blocks 0 (contents header body (bytes_of (tag_of subkey pad header body)))
+unfoldable pub sealed_file : Block → Pad → List ℕ → List ℕ → List ℕ
+sealed_file subkey pad header body = numbered_blocks 0 (contents header body (bytes_of (tag_of subkey pad header body).0))
 
 -- how many blocks that file has
 abbrev pub blocks_for : ℕ → ℕ → ℕ

@@ -4,6 +4,7 @@ use Rattle.field.specs.Digits.{numeral}
 use Rattle.field.specs.declared.block.Block.{Block}
 use Rattle.message.specs.Limits.{header_limit}
 use Rattle.message.specs.Hash.{tag_of}
+use Rattle.message.specs.declared.digest.Pad.{Pad}
 use Rattle.refusal.specs.declared.Refusal.{Refusal}
 use Rattle.refusal.specs.declared.Refusal.TheVariants.{HeaderTooLong, TagDiffers, FileSize, NoEnd}
 use Rattle.format.specs.Faults.{first, is_size_good, blocks_of, scan_result, header_in, body_in, tag_in}
@@ -34,18 +35,18 @@ first_pass file =
     if nat_le lens.header header_limit then Ok lens else Err HeaderTooLong)
 
 -- the tag in the file against the tag of what is read out of it
-abbrev pub tag_verdict : Block → Block → List ℕ → Result Lengths Refusal
+abbrev pub tag_verdict : Block → Pad → List ℕ → Result Lengths Refusal
 tag_verdict subkey pad file =
-    if numeral 256 (tag_in file) == (tag_of subkey pad (header_in file) (body_in file)).bits
+    if numeral 256 (tag_in file) == (tag_of subkey pad (header_in file) (body_in file)).0.bits
     then Ok (lengths_of (header_in file) (body_in file))
     else Err TagDiffers
 
 -- the first pass, and then the tag
-abbrev pub verdict : Block → Block → List ℕ → Result Lengths Refusal
+abbrev pub verdict : Block → Pad → List ℕ → Result Lengths Refusal
 verdict subkey pad file = after (first_pass file) (λ _. tag_verdict subkey pad file)
 
 -- The writer makes this file from this header and body, under this subkey and pad.
-pub record IsSealOf (subkey pad : Block) (header body file : List ℕ) : Type 0 where
+pub record IsSealOf (subkey : Block) (pad : Pad) (header body file : List ℕ) : Type 0 where
   -- the header is within its limit
   pub short : length header ≤ header_limit
   -- no file has more blocks
@@ -54,7 +55,7 @@ pub record IsSealOf (subkey pad : Block) (header body file : List ℕ) : Type 0 
   pub made : file ≡ sealed_file subkey pad header body
 
 -- An answer that accepts exactly the files that the writer makes.
-pub record Exact (subkey pad : Block) (file : List ℕ) (answer : Result Lengths Refusal) : Type 0 where
+pub record Exact (subkey : Block) (pad : Pad) (file : List ℕ) (answer : Result Lengths Refusal) : Type 0 where
   -- accepted exactly where the writer makes the file from the header and body read out of it
   pub exactly : IsOk answer ↔ IsSealOf subkey pad (header_in file) (body_in file) file
   -- and answered with the lengths of these two
@@ -65,7 +66,7 @@ pub record Exact (subkey pad : Block) (file : List ℕ) (answer : Result Lengths
       → (header_in file ≡ header) × (body_in file ≡ body)
 
 -- What a header and a body are sealed into is accepted, and both are read out of it again.
-pub record Reopens (subkey pad : Block) (header body : List ℕ) : Type 0 where
+pub record Reopens (subkey : Block) (pad : Pad) (header body : List ℕ) : Type 0 where
   pub accepted : verdict subkey pad (sealed_file subkey pad header body) ≡ Ok (lengths_of header body)
   pub header_again : header_in (sealed_file subkey pad header body) ≡ header
   pub body_again : body_in (sealed_file subkey pad header body) ≡ body
