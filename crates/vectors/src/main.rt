@@ -34,7 +34,6 @@ impl Score {
 // Every line of the input that is no comment is a case.
 fn compare_all(rt: &HostRuntime, more: bool) -> Result<Score, Fault> {
     let mut score = Score::default();
-    // No fold: each line prints, and may be no case.
     for line in rt.lines(rt.alloc()) {
         let line = line?;
         if !line.starts_with('#') {
@@ -68,7 +67,6 @@ fn run(rt: &HostRuntime) -> Result<(), Fault> {
     println!(rt; "{agreeing} of {cases} cases as published")?;
     print_long(rt, Block::new(0x66e9_4bd4_ef8a_2c3b_884c_fa59_ca34_2b2e))?;
     print_trials(rt)?;
-    // What is asked for is known only at run time.
     if more {
         print_files(rt)?;
     }
