@@ -8,7 +8,7 @@ use Rattle.format.proofs.Pieces.{length_pieces, pieces_more}
 use Rattle.format.specs.Layout.{Content, blocks_for, front, check_of, block_bytes, content, contents, numbered_blocks, data_pieces}
 use Rattle.format.specs.Verdict.{after}
 use Rattle.field.specs.Digits.{digits}
-use Rattle.field.specs.declared.block.Block.{Block}
+use Rattle.message.specs.declared.digest.Digest.{Digest}
 use Rattle.refusal.specs.declared.Refusal.{Refusal}
 use Rattle.sealed.specs.Writing.{room_answer}
 use Rattle.sealed.specs.declared.sealed.Sealed.{Sealed}
@@ -117,12 +117,12 @@ pub limits_kept : (header body output n : ℕ) → Ok n ≡ room_answer header b
 limits_kept header body output n done =
     (grind (arith, nat_tests, done), grind (arith, nat_tests, done))
 
--- what a message is sealed with has the count of its room, and its tag
-pub sealed_parts : (hash tag : Block) (r : Result ℕ Refusal) (s : Sealed) → Ok s ≡ after r (λ n. Ok record { blocks = n; hash = hash; tag = tag })
-    → (Ok s.blocks ≡ r) × (s.tag ≡ tag)
-sealed_parts hash tag (Ok n) s same =
-    let is : s ≡ record { blocks = n; hash = hash; tag = tag } = cc in
-    (ap (λ (x : Sealed). counted x.blocks) is, ap (λ (x : Sealed). x.tag) is) where
+-- what a message is sealed with has the count of its room, and its digest
+pub sealed_parts : (digest : Digest) (r : Result ℕ Refusal) (s : Sealed) → Ok s ≡ after r (λ n. Ok record { blocks = n; digest = digest })
+    → (Ok s.blocks ≡ r) × (s.digest ≡ digest)
+sealed_parts digest (Ok n) s same =
+    let is : s ≡ record { blocks = n; digest = digest } = cc in
+    (ap (λ (x : Sealed). counted x.blocks) is, ap (λ (x : Sealed). x.digest) is) where
       counted : ℕ → Result ℕ Refusal
       counted k = Ok k
-sealed_parts hash tag (Err e) s same = cc
+sealed_parts digest (Err e) s same = cc

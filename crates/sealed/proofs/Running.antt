@@ -6,6 +6,7 @@ use Rattle.field.specs.declared.block.Block.{Block}
 use Rattle.message.specs.Blocks.{blocks, block_of_lengths, block_of_counts, block_list}
 use Rattle.message.proofs.StandardHash.{lengths_counts}
 use Rattle.message.specs.Limits.{header_limit, body_limit}
+use Rattle.message.specs.declared.digest.Pad.{Pad}
 use Rattle.engine.specs.Rows.{HashesBlocks}
 use Rattle.engine.specs.declared.engine.Engine.{Ghosts}
 use Rattle.engine.proofs.HashedRows.{hashed_none, hashed_append}
@@ -84,7 +85,7 @@ module _ {E : Type 0} (m : Ghosts E) where
       ∙ ap (λ (ps : List Block). ps ++ last) (ap (λ (w : List ℕ). full_blocks taken ++ blocks w) left ∙ sym (blocks_full taken)))
       (hashed_append m e f.engine g (full_blocks taken) (blocks (pending_bytes f) ++ last) full closed)
 
-  module _ (e₀ e₁ : E) (pad : Block) (j : HeaderJob E) (b t : BodyJob E) (closed : Closed E) (header body : List ℕ)
+  module _ (e₀ e₁ : E) (pad : Pad) (j : HeaderJob E) (b t : BodyJob E) (closed : Closed E) (header body : List ℕ)
       (began : m.resumes e₀ block_ring.zero e₁)
       (first : HeaderTook m (m.subkey_of e₀) (m.ready_of e₀) e₁ j header)
       (turned : Turns m j b)

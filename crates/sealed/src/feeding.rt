@@ -16,12 +16,15 @@ pub(crate) trait Takes {
     ghost fed: { Self → List ℕ → Self → Type 0 };
 
     fn take(&mut self, piece: &[u8])
-        ensures { (first : Self) (taken : List ℕ) → length taken + length piece.now ≤ limit → fed first taken self.old → fed first (taken ++ piece.now) self.new };
+        ensures { (first : Self) (taken : List ℕ)
+            → length taken + length piece.now ≤ limit
+            → fed first taken self.old
+            → fed first (taken ++ piece.now) self.new };
 
     ghost begins: { (first : Self) → fed first [] first };
 }
 
-// Nothing is refused, since all together is within the limit. One for each type of job, since a state is a type.
+// Nothing is refused, since all together is within the limit.
 impl<E: Engine> Takes for HeaderJob<E> {
     ghost limit = { header_limit };
 
@@ -46,7 +49,7 @@ impl<E: Engine> Takes for BodyJob<E> {
     }
 }
 
-/// Feeds a part, block by block.
+// Feeds a part, block by block.
 pub(crate) fn feed_part<J: Takes>(job: &mut J, part: Section)
     requires { length (section_bytes part) ≤ J.limit }
     ensures { J.fed job.old (section_bytes part.entry) job.new }

@@ -1,13 +1,15 @@
 // Sealed files: writing and checking.
 #![tactic(auto)]
 
+mod blocks;
 mod checking;
 mod feeding;
-mod with_engine;
 mod hashing;
-mod laying;
+mod sealed;
+mod with_engine;
 mod writing;
 
 pub use checking::check_file;
-pub use with_engine::{Checked, WithEngine, Sealed, Written};
+pub use sealed::Sealed;
+pub use with_engine::{Checked, WithEngine, Written};
 pub use writing::write_file;

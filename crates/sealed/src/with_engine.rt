@@ -1,24 +1,17 @@
-// What comes back of an engine that is moved in.
-use field::Block;
+// What a call answers that takes an engine and hands it back.
+use crate::sealed::Sealed;
 use format::Lengths;
 use refusal::Refusal;
 
-// The engine comes back in any case.
+/// An engine that comes back, and what the call that took it answers: it comes back after a refusal too.
 #[derive(Drop)]
 pub struct WithEngine<E, T> {
     pub engine: E,
     pub answer: Result<T, Refusal>,
 }
 
-// No `Digest`: that counts the blocks that are hashed, and this those of the file.
-#[derive(Clone, Copy, PartialEq, Eq, Debug)]
-pub struct Sealed {
-    pub blocks: u32,
-    pub hash: Block,
-    pub tag: Block,
-}
-
-// What comes of checking a file, and of writing one.
+/// What comes of checking a file: how long its parts are.
 pub type Checked<E> = WithEngine<E, Lengths>;
 
+/// What comes of writing one.
 pub type Written<E> = WithEngine<E, Sealed>;

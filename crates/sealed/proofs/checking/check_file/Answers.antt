@@ -2,6 +2,8 @@ use Rattle.std.proofs.Common.{◌≡◌, ℕ, Bool, cond, eqb, List, length, IfE
 use Rattle.field.specs.Digits.{numeral}
 use Rattle.field.specs.declared.block.Block.{Block}
 use Rattle.message.specs.Hash.{tag_of}
+use Rattle.message.specs.declared.digest.Pad.{Pad}
+use Rattle.message.specs.declared.digest.Tag.{Tag}
 use Rattle.refusal.specs.declared.Refusal.{Refusal}
 use Rattle.refusal.specs.declared.Refusal.TheVariants.{TagDiffers}
 use Rattle.format.specs.Faults.{header_in, body_in, tag_in}
@@ -44,17 +46,17 @@ returns g c =
     let m = g.E.Engine in
     let e = c.args.engine in
     let file : List ℕ = c.args.file.now in
-    let pad : Block = c.args.pad in
+    let pad : Pad = c.args.pad in
     let h : Block = m.subkey_of e in
     let f = c.hash_sections-engine.result.engine in
     let cut = c.in-Ok.ensures.sections in
     let lengths : Lengths = c.in-Ok.sections.lengths in
     let tagged : Result Lengths Refusal = tag_verdict h pad file in
-    let stored : c.stored_tag.result.bits ≡ numeral 256 (tag_in file) = c.stored_tag.ensures ∙ ap (numeral 256) cut.tag in
-    let computed : c.hash_sections-engine.result.tag ≡ tag_of h pad (header_in file) (body_in file) =
+    let stored : c.stored_tag.result.0.bits ≡ numeral 256 (tag_in file) = c.stored_tag.ensures ∙ ap (numeral 256) cut.tag in
+    let computed : c.hash_sections-engine.result.digest.tag ≡ tag_of h pad (header_in file) (body_in file) =
     c.hash_sections-engine.ensures.tag ∙ ap₂ (tag_of h pad) cut.header cut.body in
-    let same : eqb c.stored_tag.result.bits c.hash_sections-engine.result.tag.bits ≡ eqb (numeral 256 (tag_in file)) (tag_of h pad (header_in file) (body_in file)).bits =
-    ap₂ (λ (n : ℕ) (t : Block). eqb n t.bits) stored computed in
+    let same : eqb c.stored_tag.result.0.bits c.hash_sections-engine.result.digest.tag.0.bits ≡ eqb (numeral 256 (tag_in file)) (tag_of h pad (header_in file) (body_in file)).0.bits =
+    ap₂ (λ (n : ℕ) (t : Tag). eqb n t.0.bits) stored computed in
     let said =
     c.compare_tags.ensures
     ∙ ap₂ (λ (t : Bool) (r : Result Lengths Refusal). cond t r (Err TagDiffers)) same (ap (λ (l : Lengths). Ok l) (passed file lengths (sym c.in-Ok.ensures.answer)).1)

@@ -1,7 +1,7 @@
 use Rattle.std.proofs.Common.{◌≡◌, ℕ, ◌+◌, ◌-◌, ◌/◌, ◌%◌, List, [], ◌∷◌, length, get_or, replicate, ap, ◌∙◌, arith}
 use Rattle.format.specs.Kinds.{kind_number}
 use Rattle.sealed.proofs.Layers.{room_left, block_numbered}
-use Rattle.sealed.proofs.laying.fill_block.Goals as goal
+use Rattle.sealed.proofs.blocks.fill_block.Goals as goal
 
 pub returns : goal.returns
 returns c =

@@ -3,7 +3,7 @@ use Rattle.std.proofs.lemmas.Slice.{drop-put_mid}
 use Rattle.format.specs.Kinds.{kind_number}
 use Rattle.format.specs.Layout.{content}
 use Rattle.format.proofs.BlockFields.{length_block}
-use Rattle.sealed.proofs.laying.put_block.Goals as goal
+use Rattle.sealed.proofs.blocks.write_block.Goals as goal
 
 pub returns-clause-back : goal.returns-clause-back
 returns-clause-back c =
