@@ -42,12 +42,10 @@ impl<'a> Message<'a> {
     pub fn check(self) -> Result<CheckedMessage<'a>, Refusal>
         ensures { ChecksLengths self.entry.header.now self.entry.body.now result }
     {
-        Part::Header.check_length(self.header)?;
-        Part::Body.check_length(self.body)?;
-        Ok(CheckedMessage {
-            header: self.header,
-            body: self.body,
-        })
+        let Message { header, body } = self;
+        Part::Header.check_length(header)?;
+        Part::Body.check_length(body)?;
+        Ok(CheckedMessage { header, body })
     }
 
     /// How many blocks are hashed, the length block too.
@@ -96,9 +94,7 @@ impl<'a> CheckedMessage<'a> {
         ensures header { result.header.now ≡ self.entry.header.now }
         ensures body { result.body.now ≡ self.entry.body.now }
     {
-        Message {
-            header: self.header,
-            body: self.body,
-        }
+        let CheckedMessage { header, body } = self;
+        Message { header, body }
     }
 }
