@@ -23,14 +23,14 @@ use Rattle.message.proofs.Strings.{xor_bits, string_append, length_string, strin
 use Rattle.message.proofs.StandardProduct.{product_bits, zeros_bits}
 
 -- blocks one after the other, as a string
-abbrev joined : List Block → List ℕ
-joined ps = flat_map block_string ps
+abbrev strings_of : List Block → List ℕ
+strings_of ps = flat_map block_string ps
 
-length_joined : (ps : List Block) → length (joined ps) ≡ length ps * 128
-length_joined [] = refl
-length_joined (p ∷ ps) =
-    length-append (block_string p) (joined ps)
-    ∙ ap₂ (λ (m n : ℕ). m + n) (length_digits 2 128 p.bits) (length_joined ps)
+length_strings : (ps : List Block) → length (strings_of ps) ≡ length ps * 128
+length_strings [] = refl
+length_strings (p ∷ ps) =
+    length-append (block_string p) (strings_of ps)
+    ∙ ap₂ (λ (m n : ℕ). m + n) (length_digits 2 128 p.bits) (length_strings ps)
     ∙ omega arith
 
 -- ---- the recursion
@@ -41,20 +41,20 @@ one_step h y p =
     ∙ product_bits (block_ring.sum y p).bits h.bits h.fits
     ∙ ap (bits 128) (sym (block_product_bits (block_ring.sum y p) h))
 
-steps : (h y : Block) (ps : List Block) → ghash_from (block_string h) (block_string y) (length ps) (joined ps) ≡ block_string (horner block_ring h y ps)
+steps : (h y : Block) (ps : List Block) → ghash_from (block_string h) (block_string y) (length ps) (strings_of ps) ≡ block_string (horner block_ring h y ps)
 steps h y [] = refl
 steps h y (p ∷ ps) =
     let wide : length (block_string p) ≡ 128 = length_digits 2 128 p.bits in
     ap₂ (λ (x s : List ℕ). ghash_from (block_string h) (product (xor (block_string y) x) (block_string h)) (length ps) s)
-    (take_at (block_string p) (joined ps) 128 wide) (drop_at (block_string p) (joined ps) 128 wide)
-    ∙ ap (λ (z : List ℕ). ghash_from (block_string h) z (length ps) (joined ps)) (one_step h y p)
+    (take_at (block_string p) (strings_of ps) 128 wide) (drop_at (block_string p) (strings_of ps) 128 wide)
+    ∙ ap (λ (z : List ℕ). ghash_from (block_string h) z (length ps) (strings_of ps)) (one_step h y p)
     ∙ steps h (block_ring.product (block_ring.sum y p) h) ps
 
-ghash_blocks : (h : Block) (ps : List Block) → ghash (block_string h) (joined ps) ≡ block_string (eval block_ring h ps)
+ghash_blocks : (h : Block) (ps : List Block) → ghash (block_string h) (strings_of ps) ≡ block_string (eval block_ring h ps)
 unfolding ghash
 ghash_blocks h ps =
-    let count : length (joined ps) / 128 ≡ length ps = ap (λ (n : ℕ). n / 128) (length_joined ps) ∙ mul-div_cancel (length ps) (omega arith) in
-    ap₂ (λ (y : List ℕ) (n : ℕ). ghash_from (block_string h) y n (joined ps)) zeros_bits count
+    let count : length (strings_of ps) / 128 ≡ length ps = ap (λ (n : ℕ). n / 128) (length_strings ps) ∙ mul-div_cancel (length ps) (omega arith) in
+    ap₂ (λ (y : List ℕ) (n : ℕ). ghash_from (block_string h) y n (strings_of ps)) zeros_bits count
     ∙ steps h block_ring.zero ps
     ∙ ap block_string (horner_eval block_ring block_ring_laws h [] ps)
 
@@ -109,7 +109,7 @@ filled_string xs small short =
 
 -- n blocks of a part, the last of which may be short
 cut_string : (n : ℕ) (xs : List ℕ) → AreBytes xs → length xs ≤ 16 * n → 16 * n < length xs + 16
-    → joined (first_blocks n xs) ≡ string xs ++ zeros (8 * (16 * n - length xs))
+    → strings_of (first_blocks n xs) ≡ string xs ++ zeros (8 * (16 * n - length xs))
 unfolding string
 cut_string zero [] small low high = refl
 cut_string zero (x ∷ xs) small low high = absurd (omega arith)
@@ -133,13 +133,13 @@ cut_string (suc n) xs small low high =
           let last : n ≡ 0 = omega arith in
           let left : 16 - length xs ≡ 16 * suc n - length xs = omega arith in
           let short : length xs ≤ 16 = omega arith in
-          ap₂ (λ (k : ℕ) (p : List ℕ). block_string (block_from p) ++ joined (first_blocks k (drop 16 xs))) last (take_all 16 xs short)
+          ap₂ (λ (k : ℕ) (p : List ℕ). block_string (block_from p) ++ strings_of (first_blocks k (drop 16 xs))) last (take_all 16 xs short)
           ∙ append-nil (block_string (block_of (filled_piece xs)))
           ∙ filled_string xs small short
           ∙ ap (λ (k : ℕ). string xs ++ zeros (8 * k)) left
     ]
 
-part_string : (xs : List ℕ) → AreBytes xs → joined (blocks xs) ≡ padded_string (string xs)
+part_string : (xs : List ℕ) → AreBytes xs → strings_of (blocks xs) ≡ padded_string (string xs)
 unfolding blocks
 part_string xs small =
     let n : ℕ = length xs in
@@ -167,7 +167,7 @@ lengths_string header body =
     (string_digits 8 (8 * length header) ∙ ap (bits 64) (sym (length_string header)))
     (string_digits 8 (8 * length body) ∙ ap (bits 64) (sym (length_string body)))
 
-message_string : (header body : List ℕ) → AreBytes header → AreBytes body → joined (block_list header body) ≡ message (string header) (string body)
+message_string : (header body : List ℕ) → AreBytes header → AreBytes body → strings_of (block_list header body) ≡ message (string header) (string body)
 unfolding message
 message_string header body small small' =
     flat_map-append block_string (blocks header) (blocks body ++ (block_of_lengths header body ∷ []))
