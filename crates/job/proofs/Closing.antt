@@ -9,20 +9,21 @@ use Rattle.message.proofs.StandardHash.{lengths_counts}
 use Rattle.engine.specs.Rows.{HashesBlocks}
 use Rattle.engine.specs.declared.engine.Engine.{Ghosts}
 use Rattle.engine.proofs.HashedRows.{hashed_eval}
-use Rattle.job.specs.Jobs.{Flushes, BodyHolds}
+use Rattle.job.specs.Buffers.{Flushes}
+use Rattle.job.specs.Jobs.{BodyHolds}
 use Rattle.job.specs.declared.block_buffer.BlockBuffer.{BlockBuffer}
 use Rattle.job.specs.declared.body_job.BodyJob.{BodyJob}
 use Rattle.job.proofs.Feeding.{flushed_value}
 
 module _ {E : Type 0} (m : Ghosts E) (j : BodyJob E) (t : BlockBuffer E) (e : E) (flushed : Flushes m j.buffer t)
     (last : HashesBlocks m t.engine (block_of_counts j.header j.buffer.count ∷ []) e) where
-  pub closed_value : (h : Block) (switches : Bool) (header body : List ℕ) → BodyHolds m h switches j header body → m.value_of e ≡ hash_of h header body
+  pub closed_value : (h : Block) (can_switch : Bool) (header body : List ℕ) → BodyHolds m h can_switch j header body → m.value_of e ≡ hash_of h header body
   unfolding hash_of
-  closed_value h switches header body pending =
+  closed_value h can_switch header body held =
       let lengths : block_of_counts j.header j.buffer.count ≡ block_of_lengths header body =
-      ap₂ block_of_counts pending.before pending.holds.count ∙ sym (lengths_counts header body) in
+      ap₂ block_of_counts held.before held.holds.count ∙ sym (lengths_counts header body) in
       hashed_eval m h t.engine e (blocks header ++ blocks body) (block_of_counts j.header j.buffer.count ∷ []) last
-      (flushed.hashed.subkey ∙ pending.holds.subkey) (flushed_value m h switches (blocks header) j.buffer t body pending.holds flushed)
+      (flushed.hashed.subkey ∙ held.holds.subkey) (flushed_value m h can_switch (blocks header) j.buffer t body held.holds flushed)
       ∙ ap (eval block_ring h)
       (append_assoc (blocks header) (blocks body) (block_of_counts j.header j.buffer.count ∷ [])
       ∙ ap (λ p. blocks header ++ (blocks body ++ (p ∷ []))) lengths)

@@ -7,11 +7,13 @@ use Rattle.field.proofs.Horner.{sum_product}
 use Rattle.field.specs.Instances.{block_ring_laws}
 use Rattle.message.specs.Blocks.{blocks_taken, blocks, block_of_lengths, block_list}
 use Rattle.message.specs.Hash.{hash_of}
+use Rattle.message.specs.declared.digest.Digest.{Digest}
+use Rattle.message.specs.declared.digest.Pad.{Pad}
 use Rattle.message.proofs.Cutting.{length_blocks}
 use Rattle.engine.specs.declared.engine.Engine.{Ghosts}
-use Rattle.job.specs.Differences.{xor_list, SameLengths, difference_of, XorIsEvaluation, RunsXorIsEvaluation}
+use Rattle.job.specs.Differences.{xor_list, SameLengths, difference_of, XorIsEvaluation, xor_of_runs, RunsXorIsEvaluation}
 use Rattle.job.specs.Jobs.{Closes}
-use Rattle.job.specs.Runs.{hash_of_run, taken_header, taken_body, Replays}
+use Rattle.job.specs.Runs.{taken_header, taken_body, Replays}
 use Rattle.job.specs.declared.call.Calls.{Calls}
 use Rattle.job.specs.declared.closed.Closed.{Closed}
 
@@ -53,21 +55,21 @@ unfolding hash_of difference_of
 hashes_differ h header body header' body' same =
     sym
     (eval_xor_list h (block_list header body) (block_list header' body')
-    (block_count_same header body ∙ ap₂ (λ m n. blocks_taken m + (blocks_taken n + 1)) same.0 same.1 ∙ sym (block_count_same header' body')))
+    (block_count_same header body ∙ ap₂ (λ m n. blocks_taken m + (blocks_taken n + 1)) same.headers same.bodies ∙ sym (block_count_same header' body')))
 
 -- what is said of two closed jobs, of the runs that they end
 module _ {A B : Type 0} (a : Ghosts A) (b : Ghosts B) (first : A) (first_calls : Calls) (second : B) (second_calls : Calls)
-    (pad : Block) (one : Closed A) (two : Closed B) (xor : Block)
+    (pad : Pad) (one : Closed A) (two : Closed B) (xor : Block)
     (ran : Replays a first first_calls pad one) (ran' : Replays b second second_calls pad two) where
-  pub runs_sum : xor ≡ block_ring.sum one.hash two.hash
-      → xor ≡ block_ring.sum (hash_of_run a first first_calls) (hash_of_run b second second_calls)
-  runs_sum said = said ∙ ap₂ block_ring.sum ran.closes.hash ran'.closes.hash
+  pub runs_sum : xor ≡ block_ring.sum one.digest.hash two.digest.hash
+      → xor ≡ xor_of_runs a b first first_calls second second_calls
+  runs_sum said = said ∙ ap₂ block_ring.sum (ap (λ (d : Digest). d.hash) ran.closes.digest) (ap (λ (d : Digest). d.hash) ran'.closes.digest)
 
   pub runs_differ : XorIsEvaluation a b one two xor → RunsXorIsEvaluation a b first first_calls second second_calls xor
   runs_differ law alike =
       let header' : List ℕ = taken_header b second second_calls in
       let body' : List ℕ = taken_body b second second_calls in
-      let ready' : Bool = b.ready_of second in
-      law (a.subkey_of first) (a.ready_of first) ready' pad pad (taken_header a first first_calls) (taken_body a first first_calls) header' body' ran.closes
-      (subst (λ (k : Block). Closes b k ready' pad two header' body') (sym alike.subkey) ran'.closes)
-      (alike.header, alike.body)
+      let can_switch' : Bool = b.ready_of second in
+      law (a.subkey_of first) (a.ready_of first) can_switch' pad pad (taken_header a first first_calls) (taken_body a first first_calls) header' body' ran.closes
+      (subst (λ (k : Block). Closes b k can_switch' pad two header' body') (sym alike.subkey) ran'.closes)
+      alike.lengths

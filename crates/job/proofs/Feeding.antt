@@ -9,7 +9,7 @@ use Rattle.engine.specs.Rows.{HashesBlocks}
 use Rattle.engine.specs.declared.engine.Engine.{Ghosts}
 use Rattle.engine.proofs.HashedRows.{hashed_none, hashed_append, hashed_eval}
 use Rattle.job.specs.Cuts.{full_blocks, left_over}
-use Rattle.job.specs.Jobs.{CutsIntoBlocks, TakesPiece, Flushes, Holds, pending_bytes}
+use Rattle.job.specs.Buffers.{pending_bytes, Holds, CutsIntoBlocks, TakesPiece, Flushes}
 use Rattle.job.specs.declared.block_buffer.BlockBuffer.{BlockBuffer}
 use Rattle.job.proofs.Cutting.{full_append, left_append, full_short, left_short, blocks_full}
 
@@ -49,9 +49,9 @@ module _ {E : Type 0} (m : Ghosts E) where
       }
 
   -- the count was raised before
-  pub fed_by : (f s t : BlockBuffer E) (xs piece : List ℕ) → CutsIntoBlocks m s xs t → xs ≡ piece → s.engine ≡ f.engine → pending_bytes s ≡ pending_bytes f
+  pub takes_by : (f s t : BlockBuffer E) (xs piece : List ℕ) → CutsIntoBlocks m s xs t → xs ≡ piece → s.engine ≡ f.engine → pending_bytes s ≡ pending_bytes f
       → s.count ≡ f.count + length piece → s.part ≡ f.part → TakesPiece m f piece t
-  fed_by f s t xs piece cut all engine pending count part =
+  takes_by f s t xs piece cut all engine pending count part =
       let bytes : pending_bytes s ++ xs ≡ pending_bytes f ++ piece = ap₂ (λ us vs. us ++ vs) pending all in
       record {
         hashed =
@@ -62,27 +62,27 @@ module _ {E : Type 0} (m : Ghosts E) where
         part = cut.part ∙ part;
       }
 
-  module _ (h : Block) (switches : Bool) (before : List Block) (f t : BlockBuffer E) (taken : List ℕ) (pending : Holds m h switches before f taken) where
-    pub holds_append : (piece : List ℕ) → AreBytes piece → TakesPiece m f piece t → Holds m h switches before t (taken ++ piece)
+  module _ (h : Block) (can_switch : Bool) (before : List Block) (f t : BlockBuffer E) (taken : List ℕ) (held : Holds m h can_switch before f taken) where
+    pub holds_append : (piece : List ℕ) → AreBytes piece → TakesPiece m f piece t → Holds m h can_switch before t (taken ++ piece)
     holds_append piece small fed = record {
-      subkey = fed.hashed.subkey ∙ pending.subkey;
-      ready = fed.hashed.ready ∙ pending.ready;
-      count = simp length-append (omega (arith, pending.count, fed.count));
-      left = fed.left ∙ ap (λ w. left_over (w ++ piece)) pending.left ∙ sym (left_append taken piece);
+      subkey = fed.hashed.subkey ∙ held.subkey;
+      ready = fed.hashed.ready ∙ held.ready;
+      count = simp length-append (omega (arith, held.count, fed.count));
+      left = fed.left ∙ ap (λ w. left_over (w ++ piece)) held.left ∙ sym (left_append taken piece);
       value =
-          hashed_eval m h f.engine t.engine (before ++ full_blocks taken) (full_blocks (pending_bytes f ++ piece)) fed.hashed pending.subkey pending.value
+          hashed_eval m h f.engine t.engine (before ++ full_blocks taken) (full_blocks (pending_bytes f ++ piece)) fed.hashed held.subkey held.value
           ∙ ap (eval block_ring h)
           (append_assoc before (full_blocks taken) (full_blocks (pending_bytes f ++ piece))
           ∙ ap (λ ps. before ++ ps)
-          (ap (λ w. full_blocks taken ++ full_blocks (w ++ piece)) pending.left ∙ sym (full_append taken piece)));
-      bytes = small_append taken piece pending.bytes small;
+          (ap (λ w. full_blocks taken ++ full_blocks (w ++ piece)) held.left ∙ sym (full_append taken piece)));
+      bytes = small_append taken piece held.bytes small;
     }
 
     -- the part is at its end
     pub flushed_value : Flushes m f t → m.value_of t.engine ≡ eval block_ring h (before ++ blocks taken)
     flushed_value flushed =
-        hashed_eval m h f.engine t.engine (before ++ full_blocks taken) (blocks (pending_bytes f)) flushed.hashed pending.subkey pending.value
+        hashed_eval m h f.engine t.engine (before ++ full_blocks taken) (blocks (pending_bytes f)) flushed.hashed held.subkey held.value
         ∙ ap (eval block_ring h)
         (append_assoc before (full_blocks taken) (blocks (pending_bytes f))
         ∙ ap (λ ps. before ++ ps)
-        (ap (λ w. full_blocks taken ++ blocks w) pending.left ∙ sym (blocks_full taken)))
+        (ap (λ w. full_blocks taken ++ blocks w) held.left ∙ sym (blocks_full taken)))

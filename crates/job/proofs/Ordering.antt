@@ -1,14 +1,15 @@
 -- What an engine goes through in a whole job, in order.
 use Rattle.std.proofs.Common.{◌≡◌, ℕ, List, [], ◌∷◌, ◌++◌, map, length, drop, is_ok, sym, refl, ap, ◌∙◌, ap₂, append_assoc, append-nil}
-use Rattle.std.proofs.lemmas.List.{drop_at}
+use Rattle.std.specs.List.{flat_map}
+use Rattle.std.proofs.lemmas.List.{drop_at, map-append}
+use Rattle.std.proofs.lemmas.List.Concat.{flat_map-append}
 use Rattle.field.specs.Kinds.{block_ring}
 use Rattle.field.specs.declared.block.Block.{Block}
-use Rattle.message.specs.Blocks.{blocks, block_of_counts}
-use Rattle.message.proofs.StandardHash.{lengths_counts}
-use Rattle.engine.specs.Chain.{Operation, absorb}
+use Rattle.message.specs.Blocks.{blocks, block_of_lengths, block_list}
+use Rattle.engine.specs.Chain.{Operation, resume, absorb}
 use Rattle.job.specs.Cuts.{full_blocks, left_over}
 use Rattle.job.specs.Plain.{Answer, call_bytes, accepted_bytes}
-use Rattle.job.specs.Runs.{new_blocks, final_block, operations_for, operations_of, flat_map, absorb_of, switch_of, resume_of, switch_answers, InOrder}
+use Rattle.job.specs.Runs.{new_blocks, final_block, operations_for, operations_of, job_operations, absorb_of, switch_of, resume_of, switch_answers, InOrder}
 use Rattle.job.specs.declared.call.Call.{Call}
 use Rattle.job.specs.declared.call.Call.TheVariants.{Feed, Switch}
 use Rattle.job.proofs.Answering.{new_blocks_follow, no_new_blocks}
@@ -33,16 +34,35 @@ last_left taken =
     ap (drop (length (full_blocks taken))) (blocks_full taken)
     ∙ drop_at (full_blocks taken) (blocks (left_over taken)) (length (full_blocks taken)) refl
 
--- all new blocks of a part, and the last
-whole_part : (taken : List ℕ) → new_blocks [] taken ++ final_block taken ≡ blocks taken
+new_from_none : (taken : List ℕ) → new_blocks [] taken ≡ full_blocks taken
 unfolding full_blocks
-whole_part taken = ap (λ ps. full_blocks taken ++ ps) (last_left taken) ∙ sym (blocks_full taken)
+new_from_none taken = refl
 
--- ---- what is gathered from the operations
+-- the full blocks of a part, and the last
+full_final : (taken : List ℕ) → full_blocks taken ++ final_block taken ≡ blocks taken
+full_final taken = ap (λ ps. full_blocks taken ++ ps) (last_left taken) ∙ sym (blocks_full taken)
 
-flat_map_append : {X : Type 0} (f : Operation → List X) (os ps : List Operation) → flat_map f (os ++ ps) ≡ flat_map f os ++ flat_map f ps
-flat_map_append f [] ps = refl
-flat_map_append f (o ∷ os) ps = ap (λ xs. f o ++ xs) (flat_map_append f os ps) ∙ sym (append_assoc (f o) (flat_map f os) (flat_map f ps))
+-- the full blocks of both parts, each with its last, and the length block
+all_blocks : (header body : List ℕ)
+    → full_blocks header ++ (final_block header ++ (full_blocks body ++ (final_block body ++ (block_of_lengths header body ∷ [])))) ≡ block_list header body
+all_blocks header body =
+    let lengths : List Block = block_of_lengths header body ∷ [] in
+    sym (append_assoc (full_blocks header) (final_block header) (full_blocks body ++ (final_block body ++ lengths)))
+    ∙ ap₂ (λ us vs. us ++ vs) (full_final header)
+    (sym (append_assoc (full_blocks body) (final_block body) lengths) ∙ ap (λ us. us ++ lengths) (full_final body))
+
+-- a job that only feeds absorbs the block list
+pub fed_operations : (header body : List ℕ)
+    → job_operations (map absorb (full_blocks header)) header (map absorb (full_blocks body)) body ≡ resume block_ring.zero ∷ map absorb (block_list header body)
+fed_operations header body =
+    let ends : List Block = final_block body ++ (block_of_lengths header body ∷ []) in
+    ap (λ os. resume block_ring.zero ∷ os)
+    (ap (λ os. map absorb (full_blocks header) ++ (map absorb (final_block header) ++ os)) (sym (map-append absorb (full_blocks body) ends))
+    ∙ ap (λ os. map absorb (full_blocks header) ++ os) (sym (map-append absorb (final_block header) (full_blocks body ++ ends)))
+    ∙ sym (map-append absorb (full_blocks header) (final_block header ++ (full_blocks body ++ ends)))
+    ∙ ap (map absorb) (all_blocks header body))
+
+-- ---- what the operations give
 
 absorbs_of : (ps : List Block) → flat_map absorb_of (map absorb ps) ≡ ps
 absorbs_of [] = refl
@@ -61,7 +81,7 @@ absorbs_in : (taken : List ℕ) (cs : List Call) (xs : List Answer) → flat_map
 absorbs_in taken [] xs = sym (no_new_blocks taken)
 absorbs_in taken (c ∷ cs) [] = sym (no_new_blocks taken)
 absorbs_in taken (c ∷ cs) (x ∷ xs) =
-    flat_map_append absorb_of (operations_for taken c x) (operations_of (taken ++ call_bytes c x) cs xs)
+    flat_map-append absorb_of (operations_for taken c x) (operations_of (taken ++ call_bytes c x) cs xs)
     ∙ ap₂ (λ ps qs. ps ++ qs) (absorbs_for taken c x) (absorbs_in (taken ++ call_bytes c x) cs xs)
     ∙ sym (new_append taken (call_bytes c x) (accepted_bytes cs xs))
 
@@ -69,7 +89,7 @@ switches_in : (taken : List ℕ) (cs : List Call) (xs : List Answer) → flat_ma
 switches_in taken [] xs = refl
 switches_in taken (c ∷ cs) [] = refl
 switches_in taken (Feed piece ∷ cs) (x ∷ xs) =
-    flat_map_append switch_of (operations_for taken (Feed piece) x) (operations_of (taken ++ call_bytes (Feed piece) x) cs xs)
+    flat_map-append switch_of (operations_for taken (Feed piece) x) (operations_of (taken ++ call_bytes (Feed piece) x) cs xs)
     ∙ ap₂ (λ ps qs. ps ++ qs) (none_of switch_of (λ p. refl) (new_blocks taken (call_bytes (Feed piece) x))) (switches_in (taken ++ call_bytes (Feed piece) x) cs xs)
 switches_in taken (Switch ∷ cs) (x ∷ xs) = ap (λ bs. is_ok x ∷ bs) (switches_in (taken ++ []) cs xs)
 
@@ -77,7 +97,7 @@ resumes_in : (taken : List ℕ) (cs : List Call) (xs : List Answer) → flat_map
 resumes_in taken [] xs = refl
 resumes_in taken (c ∷ cs) [] = refl
 resumes_in taken (Feed piece ∷ cs) (x ∷ xs) =
-    flat_map_append resume_of (operations_for taken (Feed piece) x) (operations_of (taken ++ call_bytes (Feed piece) x) cs xs)
+    flat_map-append resume_of (operations_for taken (Feed piece) x) (operations_of (taken ++ call_bytes (Feed piece) x) cs xs)
     ∙ ap₂ (λ ps qs. ps ++ qs) (none_of resume_of (λ p. refl) (new_blocks taken (call_bytes (Feed piece) x))) (resumes_in (taken ++ call_bytes (Feed piece) x) cs xs)
 resumes_in taken (Switch ∷ cs) (x ∷ xs) = resumes_in (taken ++ []) cs xs
 
@@ -86,16 +106,15 @@ resumes_in taken (Switch ∷ cs) (x ∷ xs) = resumes_in (taken ++ []) cs xs
 four_parts : {X : Type 0} (f : Operation → List X) (os ps qs rs : List Operation)
     → flat_map f (os ++ (ps ++ (qs ++ rs))) ≡ flat_map f os ++ (flat_map f ps ++ (flat_map f qs ++ flat_map f rs))
 four_parts f os ps qs rs =
-    flat_map_append f os (ps ++ (qs ++ rs))
+    flat_map-append f os (ps ++ (qs ++ rs))
     ∙ ap (λ xs. flat_map f os ++ xs)
-    (flat_map_append f ps (qs ++ rs) ∙ ap (λ xs. flat_map f ps ++ xs) (flat_map_append f qs rs))
+    (flat_map-append f ps (qs ++ rs) ∙ ap (λ xs. flat_map f ps ++ xs) (flat_map-append f qs rs))
 
 pub in_order : (hs : List Call) (xs : List Answer) (bs : List Call) (ys : List Answer) → InOrder hs xs bs ys
 in_order hs xs bs ys =
     let header : List ℕ = accepted_bytes hs xs in
     let body : List ℕ = accepted_bytes bs ys in
-    let lengths : Block = block_of_counts (length header) (length body) in
-    let ends : List Block = final_block body ++ (lengths ∷ []) in
+    let ends : List Block = final_block body ++ (block_of_lengths header body ∷ []) in
     record {
       resumes =
           ap (λ vs. block_ring.zero ∷ vs)
@@ -105,12 +124,10 @@ in_order hs xs bs ys =
           (ap₂ (λ us vs. us ++ vs) (resumes_in [] bs ys) (none_of resume_of (λ p. refl) ends))));
       absorbs =
           four_parts absorb_of (operations_of [] hs xs) (map absorb (final_block header)) (operations_of [] bs ys) (map absorb ends)
-          ∙ ap₂ (λ us vs. us ++ vs) (absorbs_in [] hs xs)
+          ∙ ap₂ (λ us vs. us ++ vs) (absorbs_in [] hs xs ∙ new_from_none header)
           (ap₂ (λ us vs. us ++ vs) (absorbs_of (final_block header))
-          (ap₂ (λ us vs. us ++ vs) (absorbs_in [] bs ys) (absorbs_of ends)))
-          ∙ sym (append_assoc (new_blocks [] header) (final_block header) (new_blocks [] body ++ ends))
-          ∙ ap₂ (λ us vs. us ++ vs) (whole_part header)
-          (sym (append_assoc (new_blocks [] body) (final_block body) (lengths ∷ [])) ∙ ap₂ (λ us p. us ++ (p ∷ [])) (whole_part body) (sym (lengths_counts header body)));
+          (ap₂ (λ us vs. us ++ vs) (absorbs_in [] bs ys ∙ new_from_none body) (absorbs_of ends)))
+          ∙ all_blocks header body;
       switches =
           four_parts switch_of (operations_of [] hs xs) (map absorb (final_block header)) (operations_of [] bs ys) (map absorb ends)
           ∙ ap₂ (λ us vs. us ++ vs) (switches_in [] hs xs)

@@ -1,5 +1,5 @@
 -- The plain job: it keeps the bytes of each part, and no engine.
-use Rattle.std.specs.Prelude.{ℕ, ◌+◌, Bool, if◌then◌else◌, List, [], ◌∷◌, ◌++◌, length, is_ok, Ok, Err, Result, nat_le}
+use Rattle.std.specs.Prelude.{◌≡◌, ℕ, ◌+◌, Bool, if◌then◌else◌, List, [], ◌∷◌, ◌++◌, length, is_ok, Ok, Err, Result, nat_le}
 use Rattle.engine.specs.Hashing.{switch_answer}
 use Rattle.refusal.specs.declared.Refusal.{Refusal}
 use Rattle.message.specs.Limits.{limit_of, part_refusal}
@@ -34,7 +34,19 @@ abbrev pub answer_to : Part → Bool → List ℕ → Call → Answer
 answer_to part ready taken (Feed piece) = feed_answer part taken piece.now
 answer_to part ready taken Switch = switch_answer ready
 
--- the bytes that a call brought: a piece whose answer was acceptance
+-- the bytes of the part after a call
+abbrev pub taken_after_call : Part → List ℕ → Call → List ℕ
+taken_after_call part taken (Feed piece) = taken_after part taken piece.now
+taken_after_call part taken Switch = taken
+
+-- A call made in one state, which led to another: whatever the plain job had taken that the first state holds, the call is answered as
+-- the plain job answers it, and the second state holds what the plain job has taken then.
+abbrev pub Follows : {S : Type 0} → (S → List ℕ → Type 0) → Part → Bool → S → Call → Answer → S → Type 0
+Follows Holds part ready old call result new =
+    (taken : List ℕ) → Holds old taken
+    → (result ≡ answer_to part ready taken call) × Holds new (taken_after_call part taken call)
+
+-- the bytes that a call brings: those of an accepted piece
 abbrev pub call_bytes : Call → Answer → List ℕ
 call_bytes (Feed piece) answer = if is_ok answer then piece.now else []
 call_bytes Switch answer = []

@@ -1,15 +1,17 @@
 // Jobs: a header and a body, fed in pieces to an engine, and the hash and tag at the close.
 #![tactic(auto)]
 
-mod body;
+mod block_buffer;
+mod body_job;
 mod call;
+mod closed;
 mod difference;
-mod buffer;
-mod header;
+mod header_job;
 mod run;
-mod state;
 
+pub use body_job::BodyJob;
 pub use call::{Answer, Call, Calls};
+pub use closed::Closed;
 pub use difference::{difference_of_runs, hash_difference};
+pub use header_job::HeaderJob;
 pub use run::replay;
-pub use state::{BodyJob, Closed, HeaderJob};
