@@ -1,9 +1,9 @@
 -- What a scan of a file's blocks goes through.
 use Rattle.std.specs.Prelude.{◌≡◌, ℕ, ◌+◌, cond, List, length, filter, Some, Ok, Err, Result, ◌==◌}
 use Rattle.refusal.specs.declared.Refusal.{Refusal}
-use Rattle.format.specs.Faults.{first, kind_in, scan_result, data_of}
+use Rattle.format.specs.Faults.{no_predecessor, kind_in, scan_result, data_of}
 use Rattle.format.specs.Kinds.{kind_number}
-use Rattle.reading.specs.Shapes.{previous_of}
+use Rattle.reading.specs.Shapes.{predecessor_of}
 use Rattle.reading.specs.declared.scanning.Scan.{Scan}
 use Rattle.reading.specs.declared.scanning.Tally.{Tally}
 use Rattle.reading.specs.declared.shape.Shape.{Shape}
@@ -32,5 +32,5 @@ pub record IsTallyOf (kind : ℕ) (bs : List (List ℕ)) (t : Tally) : Type 0 wh
 -- what all blocks say, or the first fault
 abbrev pub ScansBlocks : List (List ℕ) → Result Scan Refusal → Type 0
 ScansBlocks bs (Ok s) =
-    (scan_result 0 first bs ≡ Ok (previous_of s.last)) × IsTallyOf 1 bs s.header × IsTallyOf 2 bs s.body
-ScansBlocks bs (Err e) = scan_result 0 first bs ≡ Err e
+    (scan_result 0 no_predecessor bs ≡ Ok (predecessor_of s.last)) × IsTallyOf 1 bs s.header × IsTallyOf 2 bs s.body
+ScansBlocks bs (Err e) = scan_result 0 no_predecessor bs ≡ Err e

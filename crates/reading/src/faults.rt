@@ -1,13 +1,13 @@
 // What can be wrong with a file's size, and with a block.
 ghost use Rattle.std.specs.Prelude.{◌≡◌, ℕ, List, length, nat_eq};
-ghost use Rattle.format.specs.Faults.{is_all_zero, check_in, is_order_good, is_size_good, is_used_fit};
+ghost use Rattle.format.specs.Faults.{is_all_zero, stored_check, is_order_good, is_size_good, is_used_fit};
 ghost use Rattle.format.specs.Kinds.{kind_number};
 ghost use Rattle.reading.specs.Reading.{ChecksBlock, MatchesForm, IsPrefixOf};
-ghost use Rattle.reading.specs.Shapes.{previous_of, previous_shape};
+ghost use Rattle.reading.specs.Shapes.{predecessor_of, shape_as_predecessor};
 
 use crate::prefix::Prefix;
 use crate::shape::Shape;
-use format::{BLOCK_BYTES, CHECK_AT, DATA_BYTES, BlockKind, LARGEST_FILE, block_check};
+use format::{BLOCK_BYTES, BlockKind, CHECK_AT, DATA_BYTES, LARGEST_FILE, block_check};
 use refusal::Refusal;
 
 pub(crate) fn size_good(file: &[u8]) -> bool
@@ -41,7 +41,7 @@ impl Shape {
 
     // Nothing stands after the end, no kind after a later one, and only a full block before one of its kind.
     fn may_precede(self, kind: BlockKind) -> bool
-        ensures { result ≡ is_order_good (previous_shape self) (kind_number kind) }
+        ensures { result ≡ is_order_good (shape_as_predecessor self) (kind_number kind) }
     {
         self.kind != BlockKind::End
             && self.kind <= kind
@@ -64,7 +64,7 @@ fn shape_of(prefix: Prefix) -> Option<Shape>
 
 // The check that stands in the block's last four bytes, high byte first.
 fn stored_check(block: &[u8; BLOCK_BYTES]) -> u32
-    ensures { result ≡ check_in block.now }
+    ensures { result ≡ stored_check block.now }
 {
     let [.., c3, c2, c1, c0] = block;
     u32::from_be_bytes([*c3, *c2, *c1, *c0])
@@ -76,7 +76,7 @@ pub(crate) fn check_block(
     place: u32,
     before: Option<Shape>,
 ) -> Result<Shape, Refusal>
-    ensures { ChecksBlock place (previous_of before) block.now result }
+    ensures { ChecksBlock place (predecessor_of before) block.now result }
 {
     let prefix = Prefix::read(block);
     if stored_check(block) != block_check(&block[..CHECK_AT]) {

@@ -1,9 +1,9 @@
 // A file read record by record.
 ghost use Rattle.std.specs.Prelude.{◌≡◌, ◌*◌, ◌≤◌, length, take};
-ghost use Rattle.format.specs.Faults.{previous, previous_at};
+ghost use Rattle.format.specs.Faults.{as_predecessor, predecessor_at};
 ghost use Rattle.format.specs.Kinds.{kind_number};
-ghost use Rattle.reading.specs.Reading.{AddsToParts, ParsesRecord, ReadsBlock, data_held, kind_of};
-ghost use Rattle.reading.specs.Shapes.{previous_of, previous_shape};
+ghost use Rattle.reading.specs.Reading.{AddsToParts, ParsesRecord, ReadsBlock, record_data, record_kind};
+ghost use Rattle.reading.specs.Shapes.{predecessor_of, shape_as_predecessor};
 
 use crate::faults::{check_block, size_good};
 use crate::prefix::Prefix;
@@ -22,14 +22,14 @@ pub struct Reader<'a> {
     // The last of them.
     pub(crate) last: Option<Shape>,
     ghost within: { 512 * place ≤ length file.now },
-    ghost kind: { (previous_of last).kind ≡ (previous_at file.now place).kind },
-    ghost used: { (previous_of last).used ≡ (previous_at file.now place).used },
+    ghost kind: { (predecessor_of last).kind ≡ (predecessor_at file.now place).kind },
+    ghost used: { (predecessor_of last).used ≡ (predecessor_at file.now place).used },
 }
 
 // The record of a block of this kind, with its data.
 fn record_of<'a>(kind: BlockKind, data: &'a [u8]) -> Record<'a>
-    ensures kind { kind_of result ≡ kind_number kind }
-    ensures bytes { data_held result ≡ «data».now }
+    ensures kind { record_kind result ≡ kind_number kind }
+    ensures bytes { record_data result ≡ «data».now }
 {
     match kind {
         BlockKind::Header => Record::Header(data),
@@ -42,7 +42,7 @@ fn record_of<'a>(kind: BlockKind, data: &'a [u8]) -> Record<'a>
 // A bare pair, as a parser answers: what was read, and what is left.
 fn parse<'a>(left: &'a [u8], shape: Shape) -> (Record<'a>, &'a [u8])
     requires long { 512 ≤ length left.now }
-    requires shape { previous_shape shape ≡ previous (take 512 left.now) }
+    requires shape { shape_as_predecessor shape ≡ as_predecessor (take 512 left.now) }
     ensures { ParsesRecord left.now result.0 result.1.now }
 {
     let Some((block, rest)) = left.split_first_chunk::<BLOCK_BYTES>() else {

@@ -1,7 +1,7 @@
 // A file gone through block by block.
 ghost use Rattle.std.specs.Prelude.{◌≡◌, ◌≤◌, length, nat_eq};
 ghost use Rattle.reading.specs.Scanning.{ScansBlocks, scan_after, tally_with};
-ghost use Rattle.reading.specs.Shapes.{previous_of};
+ghost use Rattle.reading.specs.Shapes.{predecessor_of};
 
 use crate::faults::check_block;
 use crate::shape::Shape;
@@ -54,7 +54,7 @@ impl Scan {
 
     /// Whether the last block is an end block.
     pub(crate) fn has_end(self) -> bool
-        ensures { result ≡ nat_eq (previous_of self.last).kind 3 }
+        ensures { result ≡ nat_eq (predecessor_of self.last).kind 3 }
     {
         self.last.is_some_and(Shape::is_end)
     }

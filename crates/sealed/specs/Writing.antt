@@ -8,8 +8,8 @@ use Rattle.message.specs.declared.message.Message.{Message}
 use Rattle.engine.specs.declared.engine.Engine.{Ghosts}
 use Rattle.refusal.specs.declared.Refusal.{Refusal}
 use Rattle.refusal.specs.declared.Refusal.TheVariants.{HeaderTooLong, FileSize, OutputTooShort}
-use Rattle.format.specs.Layout.{blocks_for, contents, numbered_blocks}
-use Rattle.format.specs.Verdict.{after}
+use Rattle.format.specs.Layout.{blocks_for, file_contents, numbered_blocks}
+use Rattle.format.specs.Verdict.{and_then}
 use Rattle.tag.specs.Tags.{HashesMessage}
 use Rattle.sealed.specs.declared.sealed.Sealed.{Sealed}
 
@@ -25,7 +25,7 @@ room_answer header body output =
 
 abbrev pub seal_answer : Block → Block → List ℕ → List ℕ → ℕ → Result Sealed Refusal
 seal_answer subkey pad header body output =
-    after (room_answer (length header) (length body) output)
+    and_then (room_answer (length header) (length body) output)
     (λ n. Ok record { blocks = n; hash = hash_of subkey header body; tag = tag_of subkey pad header body })
 
 -- the same of a message
@@ -43,7 +43,7 @@ pub record HasRoom (m : Message) (room : ℕ) : Type 0 where
 
 -- a message and its tag, block after block
 abbrev pub file_of : Message → Block → List ℕ
-file_of m tag = numbered_blocks 0 (contents m.header.now m.body.now (bytes_of tag))
+file_of m tag = numbered_blocks 0 (file_contents m.header.now m.body.now (bytes_of tag))
 
 -- A file was written at the front of a row, and the rest of the row is as before.
 abbrev pub StandsInFront : List ℕ → List ℕ → List ℕ → Type 0

@@ -2,8 +2,8 @@ use Rattle.std.proofs.Common.{◌≡◌, ℕ, ◌<◌, ◌≤◌, List, length, 
 use Rattle.std.proofs.lemmas.Fn.{serves_by, chained_keeps}
 use Rattle.std.proofs.lemmas.List.{at_drop_all, take_all}
 use Rattle.std.proofs.lemmas.List.FromFn.{length-enumerate_from}
-use Rattle.format.specs.Faults.{Previous, fault_of, scan_result}
-use Rattle.reading.specs.Shapes.{previous_of}
+use Rattle.format.specs.Faults.{Predecessor, fault_of, scan_result}
+use Rattle.reading.specs.Shapes.{predecessor_of}
 use Rattle.reading.specs.Scanning.{IsTallyOf, ScansBlocks}
 use Rattle.reading.specs.declared.scanning.Scan.{Scan}
 use Rattle.std.proofs.lemmas.Iterator.{YieldsList, YieldsList-from_slice}
@@ -38,7 +38,7 @@ returns c =
     let turns = ran.4 in
     let a : Scan = ran.3 in
     let k : ℕ = length xs in
-    let last : Previous = previous_of a.last in
+    let last : Predecessor = predecessor_of a.last in
     let chain : YieldsList _ (λ (p : ℕ × Bor (List ℕ)). (p.0, p.1.now)) c.enumerate.result (enumerate_from 0 bs) = YieldsList-from_enumerate (YieldsList-from_slice bs (cc)) (cc) in
     let so : SoFar bs xs (ran.2, a) = chained_keeps _ (SoFar bs) (λ xs q x w j r. so_far_keeps bs c.told-blocks xs q x w j (let a : r.0 ≡ Ok w.1 = search rules in search (rules, a))) xs _ _ (λ more e. nothing_yet bs) ran.5 in
     let m = upto bs xs (ran.2, a) so (YieldsList-so_far chain xs turns.0 turns.1) in
