@@ -7,10 +7,10 @@ use Rattle.std.proofs.lemmas.List.Filters.{length-filter_more}
 use Rattle.std.proofs.lemmas.List.FromFn.{length-enumerate_from, get_or-enumerate_from}
 use Rattle.std.specs.List.{enumerate_from}
 use Rattle.format.specs.Faults.{Predecessor, no_predecessor, kind_in, used_length_in, as_predecessor, fault_of, scan_result, data_of, blocks_of_kind}
-use Rattle.reading.specs.Scanning.{IsTallyOf, tally_with}
-use Rattle.reading.specs.declared.scanning.Tally.{Tally}
+use Rattle.reading.specs.Scanning.{IsTallyOf, IsWithinFile, tally_with}
+use Rattle.reading.specs.declared.tally.Tally.{Tally}
 use Rattle.reading.specs.Shapes.{predecessor_of}
-use Rattle.reading.specs.declared.scanning.Scan.{Scan}
+use Rattle.reading.specs.declared.scan.Scan.{Scan}
 use Rattle.reading.proofs.Scans.{AllWhole, data_of_kind, data_on, data_length, data_room, data_upto, scan_more}
 
 -- what is known after k blocks
@@ -20,12 +20,8 @@ pub record Upto (bs : List (List ℕ)) (k : ℕ) (s : Scan) : Type 0 where
   pub body : IsTallyOf 2 (take k bs) s.body
 
 -- tallies count no more blocks than there are, and no more data than they have
-pub record Bounded (t : Tally) : Type 0 where
-  pub blocks : t.blocks ≤ 65536
-  pub bytes : t.bytes ≤ 33554432
-
-pub bounded : (kind k : ℕ) (bs : List (List ℕ)) (t : Tally) → AllWhole bs → length bs ≤ 65536 → IsTallyOf kind (take k bs) t → Bounded t
-bounded kind k bs t whole few is =
+pub within_file : (kind k : ℕ) (bs : List (List ℕ)) (t : Tally) → AllWhole bs → length bs ≤ 65536 → IsTallyOf kind (take k bs) t → IsWithinFile t
+within_file kind k bs t whole few is =
     let test : List ℕ → Bool = λ b. eqb (kind_in b) kind in
     record {
       blocks = omega (arith, is.blocks, length-filter test (take k bs), count_by-le-length test (take k bs), length-take k bs, few);

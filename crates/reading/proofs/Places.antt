@@ -10,7 +10,8 @@ use Rattle.format.specs.declared.block_kind.BlockKind.TheVariants.{Header, Body,
 use Rattle.format.proofs.BlockFields.{form_parts, used_limit}
 use Rattle.format.proofs.Sequences.{not_past_end}
 use Rattle.format.proofs.Scans.{faultless}
-use Rattle.reading.specs.Reading.{IsPrefixOf, refusal_at}
+use Rattle.reading.specs.Blocks.{IsPrefixOf}
+use Rattle.reading.specs.Readers.{refusal_at}
 use Rattle.reading.specs.declared.prefix.Prefix.{Prefix}
 
 -- ---- what tests tell

@@ -1,4 +1,4 @@
--- What stands before a block.
+-- A block's shape, as the block after it sees it.
 use Rattle.std.specs.Prelude.{Some, None, Option}
 use Rattle.format.specs.Faults.{Predecessor, no_predecessor}
 use Rattle.format.specs.Kinds.{kind_number}

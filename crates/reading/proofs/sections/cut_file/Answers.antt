@@ -47,7 +47,7 @@ returns-then-not-has_end-clause-answer c =
     let all = chunks_are file c.as_chunks.result.0.now c.as_chunks.ensures.front in
     let none = sym c.has_end.ensures ∙ c.if-not-has_end.true in
     ap (λ (n : ℕ). Err (NoEnd n)) c.as_chunks.ensures.front_len
-    ∙ sym (answer_no_end file (sym c.if-not-size_good.ensures) (predecessor_of c.in_ok-scan.scan.last) (ap (scan_result 0 no_predecessor) (sym all) ∙ c.in_ok-scan.ensures.0) none)
+    ∙ sym (answer_no_end file (sym c.if-not-size_good.ensures) (predecessor_of c.in_ok-scan.scan.last) (ap (scan_result 0 no_predecessor) (sym all) ∙ c.in_ok-scan.ensures.sound) none)
 
 pub returns-then-not-has_end-clause-refused : goal.returns-then-not-has_end-clause-refused
 returns-then-not-has_end-clause-refused c =
@@ -57,23 +57,23 @@ pub split_at-requires : goal.split_at-requires
 split_at-requires c =
     let said = c.in_ok-scan.ensures in
     let last : Predecessor = predecessor_of c.in_ok-scan.scan.last in
-    header_within c.as_chunks.result.0.now last c.in_ok-scan.scan.header.blocks c.in_ok-scan.scan.body.blocks said.0
-    (is_end last.kind (sym c.has_end.ensures ∙ c.if-not-has_end.false)) said.1.blocks said.2.blocks
+    header_within c.as_chunks.result.0.now last c.in_ok-scan.scan.header.blocks c.in_ok-scan.scan.body.blocks said.sound
+    (is_end last.kind (sym c.has_end.ensures ∙ c.if-not-has_end.false)) said.header.blocks said.body.blocks
 
 pub split_at-requires-2 : goal.split_at-requires-2
 split_at-requires-2 c =
     let said = c.in_ok-scan.ensures in
     let last : Predecessor = predecessor_of c.in_ok-scan.scan.last in
     subst (λ (bs : List (List ℕ)). c.in_ok-scan.scan.body.blocks ≤ length bs) (sym c.split_at.ensures.back)
-    (body_within c.as_chunks.result.0.now last c.in_ok-scan.scan.header.blocks c.in_ok-scan.scan.body.blocks said.0
-    (is_end last.kind (sym c.has_end.ensures ∙ c.if-not-has_end.false)) said.1.blocks said.2.blocks)
+    (body_within c.as_chunks.result.0.now last c.in_ok-scan.scan.header.blocks c.in_ok-scan.scan.body.blocks said.sound
+    (is_end last.kind (sym c.has_end.ensures ∙ c.if-not-has_end.false)) said.header.blocks said.body.blocks)
 
 pub bounds-end-0 : goal.bounds-end-0
 bounds-end-0 c =
     let said = c.in_ok-scan.ensures in
     let last : Predecessor = predecessor_of c.in_ok-scan.scan.last in
-    let one = last_end c.as_chunks.result.0.now last c.in_ok-scan.scan.header.blocks c.in_ok-scan.scan.body.blocks said.0
-    (is_end last.kind (sym c.has_end.ensures ∙ c.if-not-has_end.false)) said.1.blocks said.2.blocks in
+    let one = last_end c.as_chunks.result.0.now last c.in_ok-scan.scan.header.blocks c.in_ok-scan.scan.body.blocks said.sound
+    (is_end last.kind (sym c.has_end.ensures ∙ c.if-not-has_end.false)) said.header.blocks said.body.blocks in
     let end : length c.split_at-2.result.1.now ≡ 1 = ap length (c.split_at-2.ensures.back ∙ ap (drop c.in_ok-scan.scan.body.blocks) c.split_at.ensures.back ∙ one.1) in
     let some : 0 < length c.split_at-2.result.1.now = omega (arith, end) in
     some
@@ -88,7 +88,7 @@ returns c =
     let all : bs ≡ blocks_of file = chunks_are file bs c.as_chunks.ensures.front in
     let test : eqb last.kind 3 ≡ true = sym c.has_end.ensures ∙ c.if-not-has_end.false in
     let end = is_end last.kind test in
-    let one = last_end bs last scan.header.blocks scan.body.blocks said.0 end said.1.blocks said.2.blocks in
+    let one = last_end bs last scan.header.blocks scan.body.blocks said.sound end said.header.blocks said.body.blocks in
     let cut = c.split_at-2.ensures.back ∙ ap (drop scan.body.blocks) c.split_at.ensures.back ∙ one.1 in
     let block : get_or c.split_at-2.result.1.now 0 [] ≡ one.0 = ap (λ (xs : List (List ℕ)). get_or xs 0 []) cut in
     let used : c.read.result.used ≡ 16 = c.read.ensures.says.used ∙ ap used_length_in block ∙ one.3 in
@@ -96,12 +96,12 @@ returns c =
     c.data.ensures ∙ (λ i. take ((c.read.ensures.says.used ∙ ap used_length_in block) i) ((c.read.ensures.says.rest ∙ ap (drop 6) block) i)) in
     record {
       answer =
-          (λ i. Ok record { header = (said.1.bytes ∙ ap (λ (xs : List (List ℕ)). length (data_of 1 xs)) all) i; body = (said.2.bytes ∙ ap (λ (xs : List (List ℕ)). length (data_of 2 xs)) all) i })
-          ∙ sym (answer_end file (sym c.if-not-size_good.ensures) last (ap (scan_result 0 no_predecessor) (sym all) ∙ said.0) test);
+          (λ i. Ok record { header = (said.header.bytes ∙ ap (λ (xs : List (List ℕ)). length (data_of 1 xs)) all) i; body = (said.body.bytes ∙ ap (λ (xs : List (List ℕ)). length (data_of 2 xs)) all) i })
+          ∙ sym (answer_end file (sym c.if-not-size_good.ensures) last (ap (scan_result 0 no_predecessor) (sym all) ∙ said.sound) test);
       refused = tt;
       sections = record {
-        header = of_kind 1 bs c.split_at.result.0.now (blocks_of file) (c.split_at.ensures.front ∙ header_cut bs last scan.header.blocks scan.body.blocks said.0 end said.1.blocks said.2.blocks) all;
-        body = of_kind 2 bs c.split_at-2.result.0.now (blocks_of file) (c.split_at-2.ensures.front ∙ ap (take scan.body.blocks) c.split_at.ensures.back ∙ body_cut bs last scan.header.blocks scan.body.blocks said.0 end said.1.blocks said.2.blocks) all;
+        header = of_kind 1 bs c.split_at.result.0.now (blocks_of file) (c.split_at.ensures.front ∙ header_cut bs last scan.header.blocks scan.body.blocks said.sound end said.header.blocks said.body.blocks) all;
+        body = of_kind 2 bs c.split_at-2.result.0.now (blocks_of file) (c.split_at-2.ensures.front ∙ ap (take scan.body.blocks) c.split_at.ensures.back ∙ body_cut bs last scan.header.blocks scan.body.blocks said.sound end said.header.blocks said.body.blocks) all;
         tag = tag ∙ sym one.2 ∙ ap (data_of 3) all;
         whole_tag = ap length c.data.ensures ∙ length-take-le c.read.result.used c.read.result.rest.now (omega (arith, used, c.read.ensures.whole)) ∙ used;
       };

@@ -2,10 +2,11 @@ use Rattle.std.proofs.Common.{◌≡◌, ℕ, suc, ◌+◌, ◌*◌, ◌≤◌, 
 use Rattle.std.proofs.lemmas.List.{length-drop, take_rest, drop-drop}
 use Rattle.std.proofs.lemmas.Result.{err_from_is_err_and}
 use Rattle.format.specs.Faults.{Predecessor, is_size_good, kind_in, data_in, as_predecessor, predecessor_at, block_at, fault_of}
-use Rattle.reading.specs.Reading.{ParsesRecord, IsItemOf, refusal_at}
+use Rattle.reading.specs.Records.{ParsesRecord, IsItemOf}
+use Rattle.reading.specs.Readers.{refusal_at}
 use Rattle.reading.specs.Shapes.{predecessor_of, shape_as_predecessor}
 use Rattle.reading.specs.declared.record.Item.{Item}
-use Rattle.reading.proofs.Joining.{joins_record}
+use Rattle.reading.proofs.Joining.{adds_to_both}
 use Rattle.reading.proofs.Places.{wrong_block}
 use Rattle.reading.proofs.reader.Reader.next.Goals as goal
 
@@ -47,13 +48,16 @@ returns-in_err-shape-clause-read c =
     let came = err_from_is_err_and c.from_residual.result c.from_residual.ensures.1 in
     let cut = c.in-Some.ensures.cases in
     rw (came.1, came.2)
-    (wrong self.file.now c.in-Some.block.now _ self.place (predecessor_of self.last) refl cut.same cut.enough self.kind self.used (sym c.if-not-size_good.ensures) ∙ c.in_err-shape.ensures, refl)
+    record {
+      why = wrong self.file.now c.in-Some.block.now _ self.place (predecessor_of self.last) refl cut.same cut.enough self.kind self.used (sym c.if-not-size_good.ensures) ∙ c.in_err-shape.ensures;
+      stays = refl;
+    }
 
 pub invariant_of-self : goal.invariant_of-self
 invariant_of-self c =
     let self = c.args.self.now in
     let cut = c.in-Some.ensures.cases in
-    let said = next_previous self.file.now c.in-Some.block.now _ self.place (predecessor_of self.last) refl cut.same cut.enough self.kind self.used (shape_as_predecessor c.in_ok-shape.shape) c.in_ok-shape.ensures.1 in
+    let said = next_previous self.file.now c.in-Some.block.now _ self.place (predecessor_of self.last) refl cut.same cut.enough self.kind self.used (shape_as_predecessor c.in_ok-shape.shape) c.in_ok-shape.ensures.shape in
     let long = whole self.file.now c.in-Some.block.now _ self.place (predecessor_of self.last) refl cut.same cut.enough self.kind self.used in
     record { within = omega (arith, long); kind = ap (λ (p : Predecessor). p.kind) said; used = ap (λ (p : Predecessor). p.used) said }
 
@@ -62,15 +66,16 @@ returns-clause-read c =
     let self = c.args.self.now in
     let file : List ℕ = self.file.now in
     let k : ℕ = self.place in
-    let cut = c.in-Some.ensures.cases in (
-      wrong file c.in-Some.block.now _ k (predecessor_of self.last) refl cut.same cut.enough self.kind self.used (sym c.if-not-size_good.ensures) ∙ c.in_ok-shape.ensures.0,
-      whole file c.in-Some.block.now _ k (predecessor_of self.last) refl cut.same cut.enough self.kind self.used,
-      taken file k record { «record» = c.parse.result.0; rest = c.parse.result.1 } c.parse.ensures,
-      add-one k,
-    )
+    let cut = c.in-Some.ensures.cases in
+    record {
+      sound = wrong file c.in-Some.block.now _ k (predecessor_of self.last) refl cut.same cut.enough self.kind self.used (sym c.if-not-size_good.ensures) ∙ c.in_ok-shape.ensures.sound;
+      within = whole file c.in-Some.block.now _ k (predecessor_of self.last) refl cut.same cut.enough self.kind self.used;
+      item = taken file k record { «record» = c.parse.result.0; rest = c.parse.result.1 } c.parse.ensures;
+      moves = add-one k;
+    }
 
 pub returns-clause-joins : goal.returns-clause-joins
 returns-clause-joins c =
     let self = c.args.self.now in
     let item : Item = record { «record» = c.parse.result.0; rest = c.parse.result.1 } in
-    joins_record self.file.now self.place item (taken self.file.now self.place item c.parse.ensures)
+    adds_to_both self.file.now self.place item (taken self.file.now self.place item c.parse.ensures)
