@@ -7,7 +7,7 @@ use Rattle.std.proofs.lemmas.Bool.Decides.{nat_tests, Decides-by_and, Decides-eq
 use Rattle.refusal.specs.declared.Refusal.{Refusal}
 use Rattle.refusal.specs.declared.Refusal.TheVariants.{WrongCheck, WrongNumber, WrongForm, WrongOrder}
 use Rattle.format.specs.Layout.{check_of}
-use Rattle.format.specs.Faults.{Previous, number_in, kind_in, fill_in, check_in, is_all_zero, is_form_good, is_order_good, fault_of, block_at, previous_at}
+use Rattle.format.specs.Faults.{Predecessor, number_in, kind_in, filling_in, stored_check, is_all_zero, is_form_good, is_order_good, fault_of, block_at, predecessor_at}
 use Rattle.format.specs.Flaws.{IsFormed, MayFollow, Flaw, check, number, form, order, turn_of, IsFreeOf, IsBlockFlaw, HasNoFlaw, IsBlockFault}
 use Rattle.format.proofs.BlockFields.{Form, form_parts}
 
@@ -26,12 +26,12 @@ form_decides b = (
         reserve = f.reserve;
         end_used = λ end. grind (arith, nat_tests, f.used);
         part_used = λ part. (grind (arith, nat_tests, f.used), grind (arith, nat_tests, f.used));
-        fill = (zeros_decide (fill_in b)).0 f.zeros;
+        fill = (zeros_decide (filling_in b)).0 f.zeros;
       },
-  λ f. grind (arith, nat_tests, f.end_used, f.part_used, (zeros_decide (fill_in b)).1 f.fill),
+  λ f. grind (arith, nat_tests, f.end_used, f.part_used, (zeros_decide (filling_in b)).1 f.fill),
 )
 
-pub order_decides : (p : Previous) (kind : ℕ) → Decides (is_order_good p kind) (MayFollow p kind)
+pub order_decides : (p : Predecessor) (kind : ℕ) → Decides (is_order_good p kind) (MayFollow p kind)
 order_decides p kind = (
   λ good. record {
     before_end = λ end. grind (arith, nat_tests, good);
@@ -42,16 +42,16 @@ order_decides p kind = (
 )
 
 abbrev is_free : List ℕ → ℕ → Flaw → Bool
-is_free file k check = eqb (check_in (block_at file k)) (check_of (take 508 (block_at file k)))
+is_free file k check = eqb (stored_check (block_at file k)) (check_of (take 508 (block_at file k)))
 is_free file k number = eqb (number_in (block_at file k)) k
 is_free file k form = is_form_good (block_at file k)
-is_free file k order = is_order_good (previous_at file k) (kind_in (block_at file k))
+is_free file k order = is_order_good (predecessor_at file k) (kind_in (block_at file k))
 
 free_decides : (file : List ℕ) (k : ℕ) (flaw : Flaw) → Decides (is_free file k flaw) (IsFreeOf file k flaw)
-free_decides file k check = Decides-eqb (check_in (block_at file k)) (check_of (take 508 (block_at file k)))
+free_decides file k check = Decides-eqb (stored_check (block_at file k)) (check_of (take 508 (block_at file k)))
 free_decides file k number = Decides-eqb (number_in (block_at file k)) k
 free_decides file k form = form_decides (block_at file k)
-free_decides file k order = order_decides (previous_at file k) (kind_in (block_at file k))
+free_decides file k order = order_decides (predecessor_at file k) (kind_in (block_at file k))
 
 -- ---- the first of four tests that fails
 
@@ -118,7 +118,7 @@ module _ (test : Flaw → Bool) where
 
 module _ (file : List ℕ) (k : ℕ) where
   abbrev pub fault_at : Option Refusal
-  fault_at = fault_of k (previous_at file k) (block_at file k)
+  fault_at = fault_of k (predecessor_at file k) (block_at file k)
 
   -- a block is sound, or one of its flaws is met first
   pub sound_or_flawed : HasNoFlaw file k ⊎ ((flaw : Flaw) × IsBlockFlaw file k flaw)

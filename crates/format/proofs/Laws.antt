@@ -3,6 +3,7 @@ use Rattle.std.proofs.Common.{◌≡◌, ℕ, ◌+◌, ◌*◌, ◌/◌, ◌≤�
 use Rattle.std.specs.Prelude.{is_ok}
 use Rattle.std.proofs.lemmas.Bool.{eqb-true}
 use Rattle.std.proofs.lemmas.Bool.Decides.{nat_tests}
+use Rattle.std.specs.Simd.{first_chunks}
 use Rattle.field.specs.Bytes.{bytes_of}
 use Rattle.field.specs.Digits.{numeral, digits}
 use Rattle.field.specs.declared.block.Block.{Block}
@@ -12,9 +13,9 @@ use Rattle.message.specs.Blocks.{AreBytes}
 use Rattle.message.specs.Hash.{tag_of}
 use Rattle.message.specs.declared.digest.Pad.{Pad}
 use Rattle.refusal.specs.declared.Refusal.TheVariants.{TagDiffers}
-use Rattle.format.specs.Layout.{Content, contents, numbered_blocks, sealed_file, blocks_for}
-use Rattle.format.specs.Faults.{first, rows_of, blocks_of, is_size_good, scan_result, data_of, header_in, body_in, tag_in}
-use Rattle.format.specs.Verdict.{lengths_of, first_pass, tag_verdict, verdict, IsSealOf, Exact, Reopens}
+use Rattle.format.specs.Layout.{Content, file_contents, numbered_blocks, sealed_file, blocks_for}
+use Rattle.format.specs.Faults.{no_predecessor, blocks_of, is_size_good, scan_result, data_of, header_in, body_in, tag_in}
+use Rattle.format.specs.Verdict.{lengths_of, lengths_in, first_pass, tag_verdict, verdict, IsSealOf, Exact, Reopens}
 use Rattle.format.specs.Flaws.{HasFileSize}
 use Rattle.format.specs.declared.lengths.Lengths.{Lengths}
 use Rattle.format.proofs.BlockFields.{content_of}
@@ -31,14 +32,14 @@ module _ (subkey : Block) (pad : Pad) (header body : List ℕ) where
   tag = bytes_of (tag_of subkey pad header body).0
 
   abbrev carried : List Content
-  carried = contents header body tag
+  carried = file_contents header body tag
 
-  carried_follow : Follows first carried
+  carried_follow : Follows no_predecessor carried
   carried_follow = contents_follow header body tag (length_digits 256 16 (tag_of subkey pad header body).0.bits)
 
   length_carried : length (sealed_file subkey pad header body) ≡ 512 * length carried
   unfolding sealed_file
-  length_carried = length_numbered_all 0 first carried carried_follow
+  length_carried = length_numbered_all 0 no_predecessor carried carried_follow
 
   pub length_sealed : length (sealed_file subkey pad header body) ≡ 512 * blocks_for (length header) (length body)
   length_sealed = length_carried ∙ ap (λ (n : ℕ). 512 * n) (length_contents header body tag)
@@ -49,14 +50,14 @@ module _ (subkey : Block) (pad : Pad) (header body : List ℕ) where
   blocks_sealed =
       let long : length (numbered_blocks 0 carried) ≡ 512 * length carried = length_carried in
       let count : length (numbered_blocks 0 carried) / 512 ≡ length carried = omega arith in
-      ap (λ (n : ℕ). rows_of n (numbered_blocks 0 carried)) count ∙ rows_numbered 0 first carried carried_follow
+      ap (λ (n : ℕ). first_chunks 512 n (numbered_blocks 0 carried)) count ∙ rows_numbered 0 no_predecessor carried carried_follow
 
   -- the data of a kind are those of the contents of that kind
   data_sealed : (kind : ℕ) → data_of kind (blocks_of (sealed_file subkey pad header body)) ≡ part_of kind carried
   data_sealed kind =
       ap (data_of kind) blocks_sealed
       ∙ data_part kind (block_rows 0 carried)
-      ∙ ap (part_of kind) (rows_contents 0 first carried carried_follow)
+      ∙ ap (part_of kind) (rows_contents 0 no_predecessor carried carried_follow)
 
   pub sealed_header : header_in (sealed_file subkey pad header body) ≡ header
   sealed_header = data_sealed 1 ∙ header_part header body tag
@@ -96,9 +97,9 @@ module _ (subkey : Block) (pad : Pad) (header body : List ℕ) where
         let file : List ℕ = sealed_file subkey pad header body in
         let cs : List Content = carried subkey pad header body in
         let few : 0 + length cs ≤ 65536 = omega (arith, length_contents header body (tag subkey pad header body)) in
-        let scan = rows_scan 0 first cs (carried_follow subkey pad header body) few in
+        let scan = rows_scan 0 no_predecessor cs (carried_follow subkey pad header body) few in
         let within : length (header_in file) ≤ header_limit = subst (λ (h : List ℕ). length h ≤ 65535) (sym (sealed_header subkey pad header body)) short in
-        let blocks : scan_result 0 first (blocks_of file) ≡ Ok scan.0 = ap (scan_result 0 first) (blocks_sealed subkey pad header body) ∙ scan.1 in
+        let blocks : scan_result 0 no_predecessor (blocks_of file) ≡ Ok scan.0 = ap (scan_result 0 no_predecessor) (blocks_sealed subkey pad header body) ∙ scan.1 in
         grind (arith, nat_tests, size_sealed, blocks, scan.2, within, tag_sealed)
 
 -- ---- an accepted file is sealed
@@ -107,14 +108,13 @@ module _ (subkey : Block) (pad : Pad) (header body : List ℕ) where
 record Accepted (subkey : Block) (pad : Pad) (file : List ℕ) (lens : Lengths) : Type 0 where
   pub through : Passed file
   pub tagged : numeral 256 (tag_in file) ≡ (tag_of subkey pad (header_in file) (body_in file)).0.bits
-  pub read : lens ≡ lengths_of (header_in file) (body_in file)
+  pub read : lens ≡ lengths_in file
 
 accepted_parts : (subkey : Block) (pad : Pad) (file : List ℕ) (lens : Lengths) → verdict subkey pad file ≡ Ok lens → Accepted subkey pad file lens
 accepted_parts subkey pad file lens e =
-    let told : Lengths = lengths_of (header_in file) (body_in file) in
     let tag : Block = (tag_of subkey pad (header_in file) (body_in file)).0 in
     let two = came (first_pass file) (λ _. tag_verdict subkey pad file) lens e in
-    let same = test_passed (eqb (numeral 256 (tag_in file)) tag.bits) (Ok told) TagDiffers lens two.2 in
+    let same = test_passed (eqb (numeral 256 (tag_in file)) tag.bits) (Ok (lengths_in file)) TagDiffers lens two.2 in
     record {
       through = (passed file two.0 two.1).0;
       tagged = eqb-true (numeral 256 (tag_in file)) tag.bits same.0;
@@ -129,15 +129,15 @@ accepted_sealed subkey pad file lens small e =
     let a : Accepted subkey pad file lens = accepted_parts subkey pad file lens e in
     let m : ℕ = length file / 512 in
     let size : HasFileSize file = a.through.pass.size in
-    let found = scan_numbered m 0 first a.through.last file (omega arith) small a.through.scan a.through.end in
-    let cs : List Content = map content_of (rows_of m file) in
-    let ordered : Whole cs = in_order first cs found.1 (omega arith) in
-    let part : (kind : ℕ) → part_of kind cs ≡ data_of kind (rows_of m file) = λ kind. sym (data_part kind (rows_of m file)) in
+    let found = scan_numbered m 0 no_predecessor a.through.last file (omega arith) small a.through.scan a.through.end in
+    let cs : List Content = map content_of (first_chunks 512 m file) in
+    let ordered : Whole cs = in_order no_predecessor cs found.1 (omega arith) in
+    let part : (kind : ℕ) → part_of kind cs ≡ data_of kind (first_chunks 512 m file) = λ kind. sym (data_part kind (first_chunks 512 m file)) in
     let sixteen : length (tag_in file) ≡ 16 = sym (ap length (part 3)) ∙ ordered.1 in
     let last : tag_in file ≡ bytes_of (tag_of subkey pad (header_in file) (body_in file)).0 =
     sym (digits_numeral 256 (lit< tt) (tag_in file) (read_small 3 file small)) ∙ ap₂ (digits 256) sixteen a.tagged in
     found.0
-    ∙ ap (numbered_blocks 0) (ordered.0 ∙ (λ i. contents (part 1 i) (part 2 i) ((part 3 ∙ last) i)))
+    ∙ ap (numbered_blocks 0) (ordered.0 ∙ (λ i. file_contents (part 1 i) (part 2 i) ((part 3 ∙ last) i)))
 
 -- ---- both directions
 

@@ -12,13 +12,13 @@ use Rattle.message.specs.declared.digest.Pad.{Pad}
 use Rattle.refusal.specs.declared.Refusal.{Refusal}
 use Rattle.refusal.specs.declared.Refusal.TheVariants.{HeaderTooLong, TagDiffers}
 use Rattle.format.specs.Faults.{header_in, body_in, tag_in}
-use Rattle.format.specs.Verdict.{after, first_pass, tag_verdict, verdict, Exact}
+use Rattle.format.specs.Verdict.{and_then, lengths_in, first_pass, tag_verdict, verdict, Exact}
 use Rattle.format.specs.Flaws.{IsScanFault, PassesScan, IsFault}
 use Rattle.format.specs.declared.lengths.Lengths.{Lengths}
 use Rattle.format.proofs.Results.{not_both, one_reason, if_refusal}
 use Rattle.format.proofs.FirstPass.{first_refuses, too_long, first_passes}
 use Rattle.format.proofs.Laws.{sealed_tag, accepted_sealed, seal_accepted}
-use Rattle.format.proofs.ScanFaults.{told, pass_or_fault}
+use Rattle.format.proofs.ScanFaults.{pass_or_fault}
 
 module _ (subkey : Block) (pad : Pad) (file : List ℕ) where
   abbrev tag : Block
@@ -28,12 +28,12 @@ module _ (subkey : Block) (pad : Pad) (file : List ℕ) where
   is_tag_same = eqb (numeral 256 (tag_in file)) tag.bits
 
   stopped : (e : Refusal) → first_pass file ≡ Err e → verdict subkey pad file ≡ Err e
-  stopped e stop = ap (λ (r : Result Lengths Refusal). after r (λ _. tag_verdict subkey pad file)) stop
+  stopped e stop = ap (λ (r : Result Lengths Refusal). and_then r (λ _. tag_verdict subkey pad file)) stop
 
-  tag_looked_at : PassesScan file → length (header_in file) ≤ 65535 → (t : Bool) → is_tag_same ≡ t → verdict subkey pad file ≡ cond t (Ok (told file)) (Err TagDiffers)
+  tag_looked_at : PassesScan file → length (header_in file) ≤ 65535 → (t : Bool) → is_tag_same ≡ t → verdict subkey pad file ≡ cond t (Ok (lengths_in file)) (Err TagDiffers)
   tag_looked_at pass short t same =
-      ap (λ (r : Result Lengths Refusal). after r (λ _. tag_verdict subkey pad file)) (first_passes file pass short)
-      ∙ ap (λ (u : Bool). cond u (Ok (told file)) (Err TagDiffers)) same
+      ap (λ (r : Result Lengths Refusal). and_then r (λ _. tag_verdict subkey pad file)) (first_passes file pass short)
+      ∙ ap (λ (u : Bool). cond u (Ok (lengths_in file)) (Err TagDiffers)) same
 
   -- the file holds the tag of what is read out of it, and a tag that it holds reads as that one
   abbrev HoldsTag : Type 0
@@ -72,7 +72,7 @@ module _ (subkey : Block) (pad : Pad) (file : List ℕ) where
     -- in a file of bytes a tag that reads as this one is this one
     holds_tag : PassesScan file → length (header_in file) ≤ 65535 → is_tag_same ≡ true → HoldsTag
     holds_tag pass short same =
-        ap tag_in (accepted_sealed subkey pad file (told file) small (tag_looked_at pass short true same))
+        ap tag_in (accepted_sealed subkey pad file (lengths_in file) small (tag_looked_at pass short true same))
         ∙ sealed_tag subkey pad (header_in file) (body_in file)
 
     -- a file of bytes is refused for each fault that it has

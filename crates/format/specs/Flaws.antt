@@ -7,8 +7,8 @@ use Rattle.message.specs.Hash.{tag_of}
 use Rattle.message.specs.declared.digest.Pad.{Pad}
 use Rattle.refusal.specs.declared.Refusal.{Refusal}
 use Rattle.refusal.specs.declared.Refusal.TheVariants.{HeaderTooLong, TagDiffers, FileSize, WrongCheck, WrongNumber, WrongForm, WrongOrder, NoEnd}
-use Rattle.format.specs.Layout.{check_of}
-use Rattle.format.specs.Faults.{Previous, number_in, kind_in, reserve_in, used_in, fill_in, check_in, block_at, previous_at, header_in, body_in, tag_in}
+use Rattle.format.specs.Layout.{block_length, check_place, data_limit, tag_length, most_blocks, check_of}
+use Rattle.format.specs.Faults.{Predecessor, number_in, kind_in, reserve_in, used_length_in, filling_in, stored_check, block_at, predecessor_at, header_in, body_in, tag_in}
 
 -- ---- a block
 
@@ -20,20 +20,20 @@ pub record IsFormed (b : List ℕ) : Type 0 where
   -- its reserve is zero
   pub reserve : reserve_in b ≡ 0
   -- an end block holds the 16 bytes of the tag
-  pub end_used : kind_in b ≡ 3 → used_in b ≡ 16
+  pub end_used : kind_in b ≡ 3 → used_length_in b ≡ tag_length
   -- and another block 1 to 502 bytes of a part
-  pub part_used : kind_in b ≢ 3 → (1 ≤ used_in b) × (used_in b ≤ 502)
+  pub part_used : kind_in b ≢ 3 → (1 ≤ used_length_in b) × (used_length_in b ≤ data_limit)
   -- from the data to the check, every byte is zero
-  pub fill : All (λ x. x ≡ 0) (fill_in b)
+  pub fill : All (λ x. x ≡ 0) (filling_in b)
 
 -- A block of this kind may stand after p, the block before it.
-pub record MayFollow (p : Previous) (kind : ℕ) : Type 0 where
+pub record MayFollow (p : Predecessor) (kind : ℕ) : Type 0 where
   -- no block stands after an end block
   pub before_end : p.kind ≢ 3
   -- nor after a block of a later kind
   pub rising : p.kind ≤ kind
   -- nor after one of its own kind, unless that one is full
-  pub full : p.kind ≡ kind → 502 ≤ p.used
+  pub full : p.kind ≡ kind → data_limit ≤ p.used
 
 -- what can be wrong with a block, in the order in which it is looked for
 pub data Flaw : Type 0 where
@@ -51,10 +51,10 @@ turn_of order = 3
 
 -- block k of a file has not this flaw
 abbrev pub IsFreeOf : List ℕ → ℕ → Flaw → Type 0
-IsFreeOf file k check = check_in (block_at file k) ≡ check_of (take 508 (block_at file k))
+IsFreeOf file k check = stored_check (block_at file k) ≡ check_of (take check_place (block_at file k))
 IsFreeOf file k number = number_in (block_at file k) ≡ k
 IsFreeOf file k form = IsFormed (block_at file k)
-IsFreeOf file k order = MayFollow (previous_at file k) (kind_in (block_at file k))
+IsFreeOf file k order = MayFollow (predecessor_at file k) (kind_in (block_at file k))
 
 abbrev pub HasFlaw : List ℕ → ℕ → Flaw → Type 0
 HasFlaw file k flaw = ¬ IsFreeOf file k flaw
@@ -79,13 +79,13 @@ IsBlockFault file k other = ⊥
 -- ---- the blocks of a file
 
 abbrev pub block_count : List ℕ → ℕ
-block_count file = length file / 512
+block_count file = length file / block_length
 
 -- Whole blocks, 1 to 65,536 of them.
 pub record HasFileSize (file : List ℕ) : Type 0 where
-  pub whole : length file % 512 ≡ 0
+  pub whole : length file % block_length ≡ 0
   pub some : 1 ≤ block_count file
-  pub few : block_count file ≤ 65536
+  pub few : block_count file ≤ most_blocks
 
 -- no block has a flaw
 abbrev pub IsFlawless : List ℕ → Type 0

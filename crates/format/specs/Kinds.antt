@@ -9,7 +9,14 @@ kind_number Header = 1
 kind_number Body = 2
 kind_number End = 3
 
+-- A number that is no kind's.
+pub record IsNoKind (n : ℕ) (none : NoKind) : Type 0 where
+  -- it is handed back
+  pub same : none.0 ≡ n
+  -- and lies outside 1 to 3
+  pub outside : (nat_le 1 n && nat_le n 3) ≡ false
+
 -- the kind with this number, or the number of none
 abbrev pub Names : ℕ → Result BlockKind NoKind → Type 0
 Names n (Ok kind) = kind_number kind ≡ n
-Names n (Err none) = (none.0 ≡ n) × ((nat_le 1 n && nat_le n 3) ≡ false)
+Names n (Err none) = IsNoKind n none

@@ -1,21 +1,24 @@
-// The kinds of blocks.
+// The kinds of blocks, and the numbers that stand for them in a file.
 ghost use Rattle.std.specs.Prelude.{◌≡◌};
 ghost use Rattle.format.specs.Kinds.{Names, kind_number};
 
-// In the order in which they stand in a file.
+/// What a block carries. The kinds are ordered as they stand in a file.
 #[derive(Clone, Copy, PartialEq, Eq, PartialOrd, Ord, Debug)]
 pub enum BlockKind {
+    /// A piece of the header.
     Header,
+    /// A piece of the body.
     Body,
+    /// The tag: the last block of a file, and the only one of its kind.
     End,
 }
 
-// A number that no kind has.
+/// A number that no kind has: that of a block whose kind is none of the three.
 #[derive(Clone, Copy, PartialEq, Eq, Debug)]
 pub struct NoKind(pub u8);
 
 impl BlockKind {
-    // The number that stands for it in a block. No From, since the name says which number is meant.
+    /// The number that stands for the kind in a block, from 1 to 3.
     pub fn number(self) -> u8
         ensures { result ≡ kind_number self }
     {
@@ -27,6 +30,7 @@ impl BlockKind {
     }
 }
 
+/// The kind that a number stands for; every number but 1, 2 and 3 is refused with itself.
 impl TryFrom<u8> for BlockKind {
     type Error = NoKind;
 

@@ -3,14 +3,15 @@ use Rattle.std.proofs.Common.{◌≡◌, ℕ, suc, ◌+◌, ◌-◌, ◌*◌, �
 use Rattle.std.proofs.lemmas.Bool.{ne_eqb}
 use Rattle.std.proofs.lemmas.Bool.Decides.{nat_tests}
 use Rattle.std.proofs.lemmas.List.{drop-take, drop-drop, length-drop, length-take-le}
-use Rattle.format.specs.Faults.{Previous, kind_in, used_in, is_used_fit, is_all_zero, is_form_good, is_size_good, block_at, previous_at, fault_of}
+use Rattle.format.specs.Faults.{Predecessor, kind_in, used_length_in, is_used_fit, is_all_zero, is_form_good, is_size_good, block_at, predecessor_at, fault_of}
 use Rattle.format.specs.Kinds.{kind_number}
 use Rattle.format.specs.declared.block_kind.BlockKind.{BlockKind}
 use Rattle.format.specs.declared.block_kind.BlockKind.TheVariants.{Header, Body, End}
 use Rattle.format.proofs.BlockFields.{form_parts, used_limit}
 use Rattle.format.proofs.Sequences.{not_past_end}
 use Rattle.format.proofs.Scans.{faultless}
-use Rattle.reading.specs.Reading.{IsPrefixOf, wrong_at}
+use Rattle.reading.specs.Blocks.{IsPrefixOf}
+use Rattle.reading.specs.Readers.{refusal_at}
 use Rattle.reading.specs.declared.prefix.Prefix.{Prefix}
 
 -- ---- what tests tell
@@ -70,10 +71,10 @@ module _ (b : List ℕ) (k : BlockKind) (p : Prefix) (kind : kind_number k ≡ p
   good_form none fits good = grind (arith, nat_tests, form_is, fill_read fits)
 
 -- nothing stands after an end block
-pub no_fault_order : (k : ℕ) (p : Previous) (b : List ℕ) → fault_of k p b ≡ None → eqb p.kind 3 ≡ false
+pub no_fault_order : (k : ℕ) (p : Predecessor) (b : List ℕ) → fault_of k p b ≡ None → eqb p.kind 3 ≡ false
 no_fault_order k p b none = ne_eqb p.kind 3 (not_past_end p (kind_in b) (faultless k p b none).order)
 
-pub used_of_end : (b : List ℕ) → is_form_good b ≡ true → kind_in b ≡ 3 → used_in b ≡ 16
+pub used_of_end : (b : List ℕ) → is_form_good b ≡ true → kind_in b ≡ 3 → used_length_in b ≡ 16
 used_of_end b good end = grind (arith, nat_tests, (form_parts b good).used)
 
 -- ---- places
@@ -81,5 +82,5 @@ used_of_end b good end = grind (arith, nat_tests, (form_parts b good).used)
 pub block_size : (file : List ℕ) (k : ℕ) → 512 * suc k ≤ length file → length (block_at file k) ≡ 512
 block_size file k within = length-take-le 512 (drop (512 * k) file) (omega (arith, length-drop (512 * k) file))
 
-pub wrong_block : (file : List ℕ) (k : ℕ) → is_size_good file ≡ true → 512 * k < length file → wrong_at file k ≡ fault_of k (previous_at file k) (block_at file k)
+pub wrong_block : (file : List ℕ) (k : ℕ) → is_size_good file ≡ true → 512 * k < length file → refusal_at file k ≡ fault_of k (predecessor_at file k) (block_at file k)
 wrong_block file k good some = grind (arith, nat_tests, good, some)

@@ -5,8 +5,8 @@ use Rattle.std.proofs.lemmas.List.{length-drop, length-take-le, length-replicate
 use Rattle.std.proofs.lemmas.Slice.{take-put_mid}
 use Rattle.message.proofs.Cutting.{next_of}
 use Rattle.format.proofs.Pieces.{length_pieces, pieces_more}
-use Rattle.format.specs.Layout.{Content, blocks_for, front, check_of, block_bytes, content, contents, numbered_blocks, data_pieces}
-use Rattle.format.specs.Verdict.{after}
+use Rattle.format.specs.Layout.{Content, blocks_for, checked_bytes, check_of, block_bytes, content, file_contents, numbered_blocks, data_pieces}
+use Rattle.format.specs.Verdict.{and_then}
 use Rattle.field.specs.Digits.{digits}
 use Rattle.message.specs.declared.digest.Digest.{Digest}
 use Rattle.refusal.specs.declared.Refusal.{Refusal}
@@ -52,8 +52,8 @@ module _ (block : List ℕ) (whole : length block ≡ 512) (number kind : ℕ) (
     length₃ : length b₃ ≡ 512
     length₃ = put_length (6 + length bytes) n b₂ w₃ (omega (arith, length₂, left)) zeros ∙ length₂
 
-    front_numbered : take 508 b₃ ≡ front number (content kind bytes)
-    unfolding front
+    front_numbered : take 508 b₃ ≡ checked_bytes number (content kind bytes)
+    unfolding checked_bytes
     front_numbered =
         let fill : List ℕ = replicate (502 - length bytes) 0 in
         take-put_mid (6 + length bytes) n b₂ w₃ 508 (omega (arith, zeros, left)) (omega (arith, length₂))
@@ -98,7 +98,7 @@ drop_further n k xs ys further same =
 
 -- header, body and end, one after the other
 pub whole_numbered : (header body tag : List ℕ) (n k : ℕ) → n ≡ 0 + (length header + 501) / 502 → k ≡ n + (length body + 501) / 502
-    → (numbered_blocks 0 (map (content 1) (data_pieces header)) ++ numbered_blocks n (map (content 2) (data_pieces body))) ++ block_bytes k (content 3 tag) ≡ numbered_blocks 0 (contents header body tag)
+    → (numbered_blocks 0 (map (content 1) (data_pieces header)) ++ numbered_blocks n (map (content 2) (data_pieces body))) ++ block_bytes k (content 3 tag) ≡ numbered_blocks 0 (file_contents header body tag)
 whole_numbered header body tag n k upto-body upto-end =
     let hs : List Content = map (content 1) (data_pieces header) in
     let bs : List Content = map (content 2) (data_pieces body) in
@@ -118,7 +118,7 @@ limits_kept header body output n done =
     (grind (arith, nat_tests, done), grind (arith, nat_tests, done))
 
 -- what a message is sealed with has the count of its room, and its digest
-pub sealed_parts : (digest : Digest) (r : Result ℕ Refusal) (s : Sealed) → Ok s ≡ after r (λ n. Ok record { blocks = n; digest = digest })
+pub sealed_parts : (digest : Digest) (r : Result ℕ Refusal) (s : Sealed) → Ok s ≡ and_then r (λ n. Ok record { blocks = n; digest = digest })
     → (Ok s.blocks ≡ r) × (s.digest ≡ digest)
 sealed_parts digest (Ok n) s same =
     let is : s ≡ record { blocks = n; digest = digest } = cc in

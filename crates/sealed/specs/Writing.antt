@@ -10,8 +10,8 @@ use Rattle.message.specs.declared.message.Message.{Message}
 use Rattle.engine.specs.declared.engine.Engine.{Ghosts}
 use Rattle.refusal.specs.declared.Refusal.{Refusal}
 use Rattle.refusal.specs.declared.Refusal.TheVariants.{HeaderTooLong, FileSize, OutputTooShort}
-use Rattle.format.specs.Layout.{blocks_for, contents, numbered_blocks}
-use Rattle.format.specs.Verdict.{after}
+use Rattle.format.specs.Layout.{blocks_for, file_contents, numbered_blocks}
+use Rattle.format.specs.Verdict.{and_then}
 use Rattle.tag.specs.Tags.{HashesMessage}
 use Rattle.sealed.specs.declared.sealed.Sealed.{Sealed}
 
@@ -29,7 +29,7 @@ room_answer header body output =
 -- the count of blocks, and hash and tag of the header and the body
 abbrev pub seal_answer : Block → Pad → List ℕ → List ℕ → ℕ → Result Sealed Refusal
 seal_answer subkey pad header body output =
-    after (room_answer (length header) (length body) output)
+    and_then (room_answer (length header) (length body) output)
     (λ n. Ok record { blocks = n; digest = digest_of subkey pad header body })
 
 -- the same of a message
@@ -47,7 +47,7 @@ pub record HasRoom (m : Message) (room : ℕ) : Type 0 where
 
 -- a message and its tag, block after block
 abbrev pub file_of : Message → Tag → List ℕ
-file_of m tag = numbered_blocks 0 (contents m.header.now m.body.now (bytes_of tag.0))
+file_of m tag = numbered_blocks 0 (file_contents m.header.now m.body.now (bytes_of tag.0))
 
 -- A file was written at the front of a row, and the rest of the row is as before.
 abbrev pub StandsInFront : List ℕ → List ℕ → List ℕ → Type 0

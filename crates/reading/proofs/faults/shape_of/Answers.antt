@@ -29,7 +29,8 @@ pub returns : goal.returns
 returns c b named =
     let p : Prefix = c.args.prefix in
     let kind = c.in_ok-kind.kind in
-    let number = known p.kind c.try_from.result kind c.try_from.ensures c.in_ok-kind.ensures.value in (
-      good_form b kind p number named c.if-prefix-ne0.false (sym c.if-not-used_fits.ensures) (sym c.if-not-all_zero.ensures),
-      λ i. record { kind = (number ∙ named.kind) i; used = named.used i },
-    )
+    let number = known p.kind c.try_from.result kind c.try_from.ensures c.in_ok-kind.ensures.value in
+    record {
+      good = good_form b kind p number named c.if-prefix-ne0.false (sym c.if-not-used_fits.ensures) (sym c.if-not-all_zero.ensures);
+      shape = λ i. record { kind = (number ∙ named.kind) i; used = named.used i };
+    }

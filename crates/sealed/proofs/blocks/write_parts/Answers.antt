@@ -1,7 +1,7 @@
 use Rattle.std.proofs.Common.{◌≡◌, ℕ, ◌+◌, ◌*◌, ◌≤◌, List, ◌++◌, map, length, take, drop, sym, ap, ◌∙◌, ap₂, arith}
 use Rattle.std.proofs.lemmas.List.{length-take-le, take-append-drop}
 use Rattle.field.specs.Bytes.{bytes_of}
-use Rattle.format.specs.Layout.{block_bytes, content, contents, numbered_blocks, data_pieces}
+use Rattle.format.specs.Layout.{block_bytes, content, file_contents, numbered_blocks, data_pieces}
 use Rattle.sealed.proofs.Layers.{drop_further, whole_numbered}
 use Rattle.sealed.proofs.blocks.write_parts.Goals as goal
 
@@ -19,7 +19,7 @@ returns c =
     let first = c.write_blocks-next.ensures in
     let second = c.write_blocks-next-2.ensures in
     let third = c.write_block.ensures in
-    let file : List ℕ = numbered_blocks 0 (contents header body (bytes_of c.args.tag.0)) in
+    let file : List ℕ = numbered_blocks 0 (file_contents header body (bytes_of c.args.tag.0)) in
     let written : take end o₃ ≡ file =
     third.front
     ∙ ap₂ (λ (xs ys : List ℕ). xs ++ block_bytes k (content 3 ys)) (second.front ∙ ap (λ (xs : List ℕ). xs ++ numbered_blocks n (map (content 2) (data_pieces body))) first.front) c.to_bytes.ensures

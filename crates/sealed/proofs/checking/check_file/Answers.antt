@@ -8,7 +8,7 @@ use Rattle.refusal.specs.declared.Refusal.{Refusal}
 use Rattle.refusal.specs.declared.Refusal.TheVariants.{TagDiffers}
 use Rattle.format.specs.Faults.{header_in, body_in, tag_in}
 use Rattle.format.specs.Flaws.{IsFault}
-use Rattle.format.specs.Verdict.{after, tag_verdict, Exact}
+use Rattle.format.specs.Verdict.{and_then, tag_verdict, Exact}
 use Rattle.format.proofs.FirstPass.{passed}
 use Rattle.format.proofs.Laws.{exact}
 use Rattle.format.proofs.VerdictFaults.{explained}
@@ -27,7 +27,7 @@ returns-in-Err g c =
     let file : List ℕ = c.args.file.now in
     let h : Block = m.subkey_of c.args.engine in
     let tagged : Result Lengths Refusal = tag_verdict h c.args.pad file in
-    let said = ap (λ (r : Result Lengths Refusal). after r (λ _. tagged)) c.in-Err.ensures.answer in
+    let said = ap (λ (r : Result Lengths Refusal). and_then r (λ _. tagged)) c.in-Err.ensures.answer in
     record {
       answer = said;
       refused = subst (λ (r : Result Lengths Refusal). IfErr r (IsFault h c.args.pad file)) (sym said) (explained h c.args.pad file);
@@ -60,7 +60,7 @@ returns g c =
     let said =
     c.compare_tags.ensures
     ∙ ap₂ (λ (t : Bool) (r : Result Lengths Refusal). cond t r (Err TagDiffers)) same (ap (λ (l : Lengths). Ok l) (passed file lengths (sym c.in-Ok.ensures.answer)).1)
-    ∙ ap (λ (r : Result Lengths Refusal). after r (λ _. tagged)) c.in-Ok.ensures.answer in
+    ∙ ap (λ (r : Result Lengths Refusal). and_then r (λ _. tagged)) c.in-Ok.ensures.answer in
     let ran : HashesMessage m e (header_in file) (body_in file) f =
     subst (λ (xs : List ℕ). HashesMessage m e (header_in file) xs f) cut.body (subst (λ (xs : List ℕ). HashesMessage m e xs (section_bytes c.in-Ok.sections.body) f) cut.header c.hash_sections-engine.ensures.ran) in
     record {

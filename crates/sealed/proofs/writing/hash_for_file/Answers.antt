@@ -1,6 +1,6 @@
 use Rattle.std.proofs.Common.{◌≡◌, ℕ, List, length, Ok, Result, sym, ap, ◌∙◌}
 use Rattle.field.specs.declared.block.Block.{Block}
-use Rattle.format.specs.Verdict.{after}
+use Rattle.format.specs.Verdict.{and_then}
 use Rattle.message.specs.Answer.{digest_of}
 use Rattle.message.specs.declared.digest.Digest.{Digest}
 use Rattle.message.proofs.Within.{accepted_value}
@@ -21,6 +21,6 @@ returns g c =
     let hashed : c.in_ok-digest.digest ≡ digest = accepted_value header body c.in_ok-digest.digest digest (sym c.in_ok-digest.was ∙ c.tag_message.ensures.answer) in
     let counted : ◌≡◌ {A = Result ℕ Refusal} (Ok c.in_ok-blocks.blocks) (room_answer (length header) (length body) c.args.room) = sym c.in_ok-blocks.was ∙ c.count_blocks.ensures in
     record {
-      answer = ap (λ (d : Digest). sealed_as d c.in_ok-blocks.blocks) hashed ∙ ap (λ (r : Result ℕ Refusal). after r (sealed_as digest)) counted;
+      answer = ap (λ (d : Digest). sealed_as d c.in_ok-blocks.blocks) hashed ∙ ap (λ (r : Result ℕ Refusal). and_then r (sealed_as digest)) counted;
       engine = c.in_ok-digest.ensures.engine;
     }
