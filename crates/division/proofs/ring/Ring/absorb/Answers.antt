@@ -27,14 +27,14 @@ returns-clause-divided c =
     let bits : ℕ → Bool = coefficients_of divisor.polynomial.coefficients in
     let top : Block = c.index-self-base.result in
     let all : length ring.state ≡ 128 = search rules in
-    let cleared : List Block = set (set ring.state ring.base c.plus.result) base c.zero.result in
+    let cleared : List Block = set (set ring.state ring.base c.add.result) base c.zero.result in
     let after : row_of c.add_at.new.self ≡ sum_at_places block_ring top (one_places 128 bits) (rotation base cleared) =
     c.add_at.ensures.row
     ∙ ap₂ (λ (x : Block) (ps : List ℕ). sum_at_places block_ring x ps (rotation base cleared)) (sym c.index-self-base.is)
     (c.as_slice.ensures.value ∙ divisor.ones) in
-    let made : c.plus.result ≡ block_ring.sum c.index-self-lowest.result c.args.block =
-    c.plus.ensures ∙ ap (λ (x : Block). block_ring.sum x c.args.block) (sym c.index-self-lowest.is) in
+    let made : c.add.result ≡ block_ring.sum c.index-self-lowest.result c.args.block =
+    c.add.ensures ∙ ap (λ (x : Block). block_ring.sum x c.args.block) (sym c.index-self-lowest.is) in
     horner_divided block_ring block_ring_laws block_even 127 ring.base base bits ring.state ring.inside (omega arith) all
     (stands ring.base 127 ring.inside (omega arith))
-    c.args.block c.index-self-lowest.result c.plus.result top c.zero.result (row_of c.add_at.new.self)
+    c.args.block c.index-self-lowest.result c.add.result top c.zero.result (row_of c.add_at.new.self)
     c.index-self-lowest.is made c.index-self-base.is c.zero.ensures after

@@ -32,9 +32,9 @@ loop-place-preserved c =
     let read : get_or row p block_ring.zero ≡ x =
     rotation_read 128 b ring.inside now long p at block_ring.zero below there
     ∙ sym (get_or_read now at x (omega arith) c.index-self-at.is block_ring.zero) in
-    let stored : rotation b (set now at c.plus.result) ≡ set row p (block_ring.sum (get_or row p block_ring.zero) c.args.block) =
-    rotation_set 128 b ring.inside now long p at c.plus.result below there
-    ∙ ap (set row p) (c.plus.ensures ∙ ap (λ (y : Block). block_ring.sum y c.args.block) (sym c.index-self-at.is ∙ sym read)) in (
+    let stored : rotation b (set now at c.add.result) ≡ set row p (block_ring.sum (get_or row p block_ring.zero) c.args.block) =
+    rotation_set 128 b ring.inside now long p at c.add.result below there
+    ∙ ap (set row p) (c.add.ensures ∙ ap (λ (y : Block). block_ring.sum y c.args.block) (sym c.index-self-at.is ∙ sym read)) in (
       ap (sum_at_places block_ring c.args.block (drop (k + 1) ps)) stored
           ∙ ap (λ (qs : List ℕ). sum_at_places block_ring c.args.block qs row)
           (ap (λ (q : ℕ). q ∷ drop (k + 1) ps) (sym here) ∙ sym (drop_more ps k 0 within))
