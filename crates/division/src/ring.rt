@@ -35,7 +35,7 @@ fn value_above(key: Block, coefficients: &[Block], above: Block) -> Block
 
 impl Ring {
     ghost use Rattle.polynomial.specs.Polynomials.{value_at};
-    ghost use Rattle.division.specs.Divisions.{IsConstant, IsReduction, row_of, next_base};
+    ghost use Rattle.division.specs.Divisions.{IsConstant, LeavesRemainder, polynomial_of, base_after};
     ghost use Rattle.division.specs.Places.{sum_at_places};
 
     // The constant polynomial of this value.
@@ -61,7 +61,7 @@ impl Ring {
 
     // The value of W at a key: 128 products. The higher part of W is the one that has gone round the end of the array.
     pub(crate) fn value_at(&self, key: Block) -> Block
-        ensures { result ≡ value_at block_ring key (row_of self.now) }
+        ensures { result ≡ value_at block_ring key (polynomial_of self.now) }
     {
         let (high, low) = self.state.split_at(self.base);
         let above = value_above(key, high, Block::zero());
@@ -71,7 +71,7 @@ impl Ring {
     // Adds a block to the coefficient of t^k for each of these places k.
     fn add_at(&mut self, places: &[u8], block: Block)
         requires { (k : ℕ) → k < length places.now → slice_index places.now k < 128 }
-        ensures row { row_of self.new ≡ sum_at_places block_ring block places.now (row_of self.old) }
+        ensures row { polynomial_of self.new ≡ sum_at_places block_ring block places.now (polynomial_of self.old) }
         ensures base { self.new.base ≡ self.old.base }
     {
         let base = self.base;
@@ -83,8 +83,8 @@ impl Ring {
 
     // Replaces W by the remainder of t·(W + block) under division.
     pub(crate) fn absorb(&mut self, divisor: &Divisor, block: Block)
-        ensures divided { IsReduction divisor.now.polynomial self.old block self.new }
-        ensures turn { self.new.base ≡ next_base self.old.base }
+        ensures divided { LeavesRemainder divisor.now.polynomial self.old block self.new }
+        ensures turn { self.new.base ≡ base_after self.old.base }
     {
         let lowest = self.base;
         self.state[lowest] = self.state[lowest] + block;
