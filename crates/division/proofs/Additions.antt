@@ -1,4 +1,4 @@
--- An element added at the places of the ones, and the coefficients that come of it.
+-- The places of the ones, and what comes of adding an element there.
 use Rattle.std.proofs.Common.{◌≡◌, ℕ, zero, suc, ◌+◌, ◌<◌, ◌≤◌, Bool, true, false, cond, List, [], ◌∷◌, ◌++◌, length, get_or, take, set, filter, sym, refl, ap, ◌∙◌, append_assoc, add-one, arith}
 use Rattle.std.specs.List.{range_with_len, All}
 use Rattle.std.proofs.lemmas.List.Elements.{All-filter, All-from_get_or}
@@ -20,8 +20,8 @@ get_or-one_places n bits k lt =
     let tried : List ℕ = range_with_len 0 n in
     let all_below : All IsBelow tried =
     All-from_get_or IsBelow tried 0 (λ i within.
-      let tried_here : i < n = omega (arith, length-range_with_len 0 n) in
-      omega (arith, get_or-range_with_len 0 n i 0 tried_here)) in
+    let tried_here : i < n = omega (arith, length-range_with_len 0 n) in
+    omega (arith, get_or-range_with_len 0 n i 0 tried_here)) in
     All-filter bits IsBelow tried all_below k 0 lt
 
 -- one coefficient more
@@ -46,32 +46,34 @@ length-one_places n bits =
 -- ---- what is added
 
 module _ {K : Type 0} (m : Ghosts K) (laws : CommutativeRing m.zero m.one m.sum m.product) (top : K) (bits : ℕ → Bool) where
-  -- the first of a part is dealt with, and the others are still to come
-  one_place : (b : Bool) (j : ℕ) (ps : List ℕ) (front : List K) (below : K) (ws : List K) → length front ≡ j
-      → sum_at_places m top (cond b (j ∷ ps) ps) (front ++ (below ∷ ws)) ≡ sum_at_places m top ps ((front ++ (m.sum below (cond b top m.zero) ∷ [])) ++ ws)
-  one_place true j ps front below ws long =
-      ap (sum_at_places m top ps)
-      (ap (λ x. set (front ++ (below ∷ ws)) j (m.sum x top)) (get_or_at front below ws m.zero j long)
-      ∙ set_at front below ws (m.sum below top) j long
-      ∙ sym (append_assoc front (m.sum below top ∷ []) ws))
-  one_place false j ps front below ws long =
-      ap (sum_at_places m top ps)
-      (ap (λ x. front ++ (x ∷ ws)) (sym (laws.sum_zero below)) ∙ sym (append_assoc front (m.sum below m.zero ∷ []) ws))
+  -- The coefficient of t^j is dealt with, by an addition or by none, and the places above it are still to come.
+  one_place : (b : Bool) (j : ℕ) (places : List ℕ) (below : List K) (c : K) (above : List K) → length below ≡ j
+      → sum_at_places m top (cond b (j ∷ places) places) (below ++ (c ∷ above))
+      ≡ sum_at_places m top places ((below ++ (m.sum c (cond b top m.zero) ∷ [])) ++ above)
+  one_place true j places below c above at =
+      ap (sum_at_places m top places)
+      (ap (λ x. set (below ++ (c ∷ above)) j (m.sum x top)) (get_or_at below c above m.zero j at)
+      ∙ set_at below c above (m.sum c top) j at
+      ∙ sym (append_assoc below (m.sum c top ∷ []) above))
+  one_place false j places below c above at =
+      ap (sum_at_places m top places)
+      (ap (λ x. below ++ (x ∷ above)) (sym (laws.sum_zero c)) ∙ sym (append_assoc below (m.sum c m.zero ∷ []) above))
 
-  sum_at_from : (j n : ℕ) (front : List K) (below : K) (ws : List K) → length front ≡ j → length ws ≡ n
-      → sum_at_places m top (filter bits (range_with_len j n)) (front ++ take n (below ∷ ws)) ≡ front ++ remainder_from m top bits j below ws
-  sum_at_from j zero front below [] at long = refl
-  sum_at_from j zero front below (w ∷ ws) at long = absurd (omega arith)
-  sum_at_from j (suc n) front below [] at long = absurd (omega arith)
-  sum_at_from j (suc n) front below (w ∷ ws) at long =
-      let here : K = m.sum below (cond (bits j) top m.zero) in
-      one_place (bits j) j (filter bits (range_with_len (j + 1) n)) front below (take n (w ∷ ws)) at
-      ∙ sum_at_from (j + 1) n (front ++ (here ∷ [])) w ws (length_push front here ∙ ap (λ k. k + 1) at) (omega arith)
-      ∙ append_assoc front (here ∷ []) (remainder_from m top bits (j + 1) w ws)
-      ∙ ap (λ k. front ++ (here ∷ remainder_from m top bits k w ws)) (add-one j)
+  sum_at_from : (j n : ℕ) (below : List K) (c : K) (cs : List K) → length below ≡ j → length cs ≡ n
+      → sum_at_places m top (filter bits (range_with_len j n)) (below ++ take n (c ∷ cs))
+      ≡ below ++ remainder_from m top bits j c cs
+  sum_at_from j zero below c [] at long = refl
+  sum_at_from j zero below c (d ∷ cs) at long = absurd (omega arith)
+  sum_at_from j (suc n) below c [] at long = absurd (omega arith)
+  sum_at_from j (suc n) below c (d ∷ cs) at long =
+      let here : K = m.sum c (cond (bits j) top m.zero) in
+      one_place (bits j) j (filter bits (range_with_len (j + 1) n)) below c (take n (d ∷ cs)) at
+      ∙ sum_at_from (j + 1) n (below ++ (here ∷ [])) d cs (length_push below here ∙ ap (λ k. k + 1) at) (omega arith)
+      ∙ append_assoc below (here ∷ []) (remainder_from m top bits (j + 1) d cs)
+      ∙ ap (λ k. below ++ (here ∷ remainder_from m top bits k d cs)) (add-one j)
 
-  -- every coefficient one place up, and `top` added at the ones
-  pub sum_at_places-one_places : (n : ℕ) (ws : List K) → length ws ≡ n
-      → sum_at_places m top (one_places n bits) (take n (m.zero ∷ ws)) ≡ remainder_from m top bits 0 m.zero ws
+  -- Coefficients moved one place up, with `top` added at the places of the ones, are the remainder.
+  pub sum_at_places-one_places : (n : ℕ) (cs : List K) → length cs ≡ n
+      → sum_at_places m top (one_places n bits) (take n (m.zero ∷ cs)) ≡ remainder_from m top bits 0 m.zero cs
   unfolding one_places
-  sum_at_places-one_places n ws long = sum_at_from 0 n [] m.zero ws refl long
+  sum_at_places-one_places n cs long = sum_at_from 0 n [] m.zero cs refl long

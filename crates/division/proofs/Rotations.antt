@@ -1,11 +1,11 @@
--- Stores, loads and a turn by one place in a row that goes round.
+-- Reads and writes in a ring, and its beginning moved one place back.
 use Rattle.std.proofs.Common.{◌≡◌, ℕ, suc, ◌+◌, ◌-◌, ◌%◌, ◌<◌, ◌≤◌, ◌⊎◌, List, [], ◌∷◌, ◌++◌, length, get_or, take, drop, set, sym, ap, ◌∙◌, ap₂, inl, inr, ⊎_elim, append_assoc, append-nil, arith, length-append, length-drop, length-take}
 use lib.Seq.{take-set-lt}
 use Rattle.std.proofs.lemmas.Bool.Decides.{leb_tells}
 use Rattle.std.proofs.lemmas.List.{get_or_append_left, get_or-append_right, get_or-take, get_or-drop, set-append_left, set-append_right, take-set-le, drop-set-lt, drop-set-add, take_at, take_more, drop_more, drop_all}
 use Rattle.division.specs.Rotation.{rotation}
 
--- where the element of place p stands, in a row of n that begins at b
+-- In a ring of n places that begins at b, the element p places on stands at this place: before the list's end, or round it.
 abbrev pub Stands : ℕ → ℕ → ℕ → ℕ → Type 0
 Stands n b p at = ((b + p < n) × (at ≡ b + p)) ⊎ ((n ≤ b + p) × (at + n ≡ b + p))
 
@@ -48,7 +48,7 @@ module _ {K : Type 0} (n b : ℕ) (inside : b < n) where
       ∙ ap (λ k. get_or (take b s) k d) same
       ∙ get_or-take b s at d (omega arith)
 
--- the beginning moved back by one place: the last of the row comes first
+-- the beginning moved one place back: the last element comes first, and each of the others one place later
 pub rotation-one_back : {K : Type 0} (n b back : ℕ) (s : List K) (d : K) → b < suc n → length s ≡ suc n → Stands (suc n) b n back
     → rotation back s ≡ get_or s back d ∷ take n (rotation b s)
 unfolding rotation

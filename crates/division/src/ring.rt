@@ -71,7 +71,8 @@ impl Ring {
     // Adds a block to the coefficient of t^k for each of these places k.
     fn add_at(&mut self, places: &[u8], block: Block)
         requires { (k : ℕ) → k < length places.now → slice_index places.now k < 128 }
-        ensures row { polynomial_of self.new ≡ sum_at_places block_ring block places.now (polynomial_of self.old) }
+        ensures added { polynomial_of self.new
+            ≡ sum_at_places block_ring block places.now (polynomial_of self.old) }
         ensures base { self.new.base ≡ self.old.base }
     {
         let base = self.base;

@@ -29,7 +29,7 @@ returns-clause-divided c =
     let all : length ring.state ≡ 128 = search rules in
     let cleared : List Block = set (set ring.state ring.base c.add.result) base c.zero.result in
     let after : polynomial_of c.add_at.new.self ≡ sum_at_places block_ring top (one_places 128 bits) (rotation base cleared) =
-    c.add_at.ensures.row
+    c.add_at.ensures.added
     ∙ ap₂ (λ (x : Block) (ps : List ℕ). sum_at_places block_ring x ps (rotation base cleared)) (sym c.index-self-base.is)
     (c.as_slice.ensures.value ∙ divisor.ones) in
     let made : c.add.result ≡ block_ring.sum c.index-self-lowest.result c.args.block =
