@@ -108,7 +108,7 @@ module _ {K : Type 0} (m : Ghosts K) (laws : CommutativeRing m.zero m.one m.sum 
       (cancel (m.sum (m.product c d) m.zero) x y lowest)
       (same_rest c ds r s (omega arith) (omega arith) (left ∙ ap (λ u. sum_of m (multiple u ds) s) top))
 
-  pub only_remainder : (polynomial ds r : List K) (n : ℕ) → length ds ≡ n → IsRemainder m polynomial (ds ++ (m.one ∷ [])) r n
-      → IsOnlyRemainder m polynomial (ds ++ (m.one ∷ [])) r n
-  only_remainder polynomial ds r n long a s b =
+  pub only_remainder : (dividend ds r : List K) (n : ℕ) → length ds ≡ n → IsRemainder m dividend (ds ++ (m.one ∷ [])) r n
+      → IsOnlyRemainder m dividend (ds ++ (m.one ∷ [])) r n
+  only_remainder dividend ds r n long a s b =
       same_remainder ds b.quotient a.quotient s r (b.short ∙ sym long) (a.short ∙ sym long) (sym b.whole ∙ a.whole)
