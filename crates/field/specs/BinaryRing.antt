@@ -1,4 +1,4 @@
--- The ring of a lawful shape of polynomials over the bits, residues in any type of the numbers below 2 ^ width.
+-- The polynomials of a lawful shape are a commutative ring, in any type whose values are the residues below 2 ^ width.
 use Rattle.std.specs.Prelude.{◌≡◌, ℕ, zero, ◌^◌, bit_xor}
 use Rattle.std.proofs.Common.{sym, ap, ap₂, ◌∙◌, pow_pos}
 use Rattle.std.specs.Int.Bits.{xor_assoc, xor_self, xor_zero_r}
@@ -21,6 +21,7 @@ module _ {V : Type 0} (shape : FieldShape) (lawful : Lawful shape) (residues : R
   abbrev times_in : V → V → V
   times_in u v = residues.enter (times (number u) (number v))
 
+  -- what enters fits already, so that its number is the xor and the product themselves
   pub sum_number : (u v : V) → number (plus_in u v) ≡ bit_xor (number u) (number v)
   sum_number u v =
       value_below residues (bit_xor (number u) (number v)) (xor_lt shape.width (number u) (number v) (residues.fits u) (residues.fits v))

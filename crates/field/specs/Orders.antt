@@ -20,7 +20,7 @@ part_bits (suc zero) (suc zero) v hc hd = sym (xor_self v)
 part_bits (suc zero) (suc (suc d)) v hc hd = absurd (omega arith)
 part_bits (suc (suc c)) d v hc hd = absurd (omega arith)
 
-pub part_times : (c v : ℕ) → c < 2 → times_bit c v ≡ c * v
+part_times : (c v : ℕ) → c < 2 → times_bit c v ≡ c * v
 part_times zero v h = sym (zero-mul v)
 part_times (suc zero) v h = sym (one-mul v)
 part_times (suc (suc c)) v h = absurd (omega arith)
@@ -116,7 +116,7 @@ module _ (width rest : ℕ) where
       ∙ part_bits (top a) (top b) rest (mod-lt (a / 2 ^ (width - 1)) two) (mod-lt (b / 2 ^ (width - 1)) two))
       ∙ xor_four (a * 2 % 2 ^ width) (b * 2 % 2 ^ width) (times_bit (top a) rest) (times_bit (top b) rest)
 
-  pub low_fits : rest < 2 ^ width → (v : ℕ) → low_step v < 2 ^ width
+  low_fits : rest < 2 ^ width → (v : ℕ) → low_step v < 2 ^ width
   low_fits hr v =
       xor_lt width (v * 2 % 2 ^ width) (times_bit (top v) rest) (mod-lt (v * 2) (pow_pos width)) (part_lt (top v) rest width hr)
 

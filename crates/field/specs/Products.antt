@@ -1,4 +1,4 @@
--- The laws of the product of polynomials over the bits, for any step that keeps sums.
+-- The laws of the product of polynomials over the bits, for every shape whose multiplication by x is additive.
 use Rattle.std.specs.Prelude.{◌≡◌, ℕ, zero, suc, ◌^◌, ◌<◌, bit_xor}
 use Rattle.std.proofs.Math.Path.{refl, ap, ap₂}
 use Rattle.std.proofs.Common.{sym, ◌∙◌}
@@ -7,18 +7,22 @@ use Rattle.std.proofs.lemmas.Nat.{xor_comm}
 use Rattle.std.proofs.Math.Pow.{pow_pos}
 use Rattle.field.specs.Binary.{FieldShape, times_bit, times_x_power, bit_product}
 
+-- a map of a sum is the sum of the maps
 abbrev pub Additive : (ℕ → ℕ) → Type 0
 Additive f = (a b : ℕ) → f (bit_xor a b) ≡ bit_xor (f a) (f b)
 
+-- four terms of a sum, those in the middle exchanged
 pub xor_four : (a b c d : ℕ) → bit_xor (bit_xor a b) (bit_xor c d) ≡ bit_xor (bit_xor a c) (bit_xor b d)
 xor_four a b c d =
     xor_assoc a b (bit_xor c d)
     ∙ ap (bit_xor a) (sym (xor_assoc b c d) ∙ ap (λ (x : ℕ). bit_xor x d) (xor_comm b c) ∙ xor_assoc c b d)
     ∙ sym (xor_assoc a c (bit_xor b d))
 
+-- zero goes to zero
 pub none_of : (f : ℕ → ℕ) → Additive f → f zero ≡ zero
 none_of f additive = additive zero zero ∙ xor_self (f zero)
 
+-- a bit may be multiplied before or after
 pub part_of : (f : ℕ → ℕ) → Additive f → (bit v : ℕ) → f (times_bit bit v) ≡ times_bit bit (f v)
 part_of f additive zero v = none_of f additive
 part_of f additive (suc bit) v = refl
@@ -31,12 +35,13 @@ pub part_lt : (bit v width : ℕ) → v < 2 ^ width → times_bit bit v < 2 ^ wi
 part_lt zero v width h = pow_pos width
 part_lt (suc bit) v width h = h
 
--- what a shape owes for its ring
+-- What makes a shape's polynomials a ring.
 pub record Lawful (shape : FieldShape) : Type 0 where
+  -- x times a sum is the sum of x times each
   pub additive : Additive shape.step
   pub step_fits : (v : ℕ) → v < 2 ^ shape.width → shape.step v < 2 ^ shape.width
   pub unit_fits : shape.unit < 2 ^ shape.width
-  -- a number's coefficients give it back
+  -- a polynomial is the sum of its terms
   pub spanned : (a : ℕ) → a < 2 ^ shape.width → bit_product shape shape.width a shape.unit ≡ a
 
 module _ (shape : FieldShape) (lawful : Lawful shape) where
@@ -75,6 +80,7 @@ module _ (shape : FieldShape) (lawful : Lawful shape) where
   bit_product_step : (n a v : ℕ) → bit_product shape n a (shape.step v) ≡ shape.step (bit_product shape n a v)
   bit_product_step n a v = sym (through_product shape.step lawful.additive (λ u. refl) n a v)
 
+  -- two factors of a product may be exchanged
   products_swap : (n a b v : ℕ) → bit_product shape n a (bit_product shape n b v) ≡ bit_product shape n b (bit_product shape n a v)
   products_swap n a b v =
       through_product (bit_product shape n a) (bit_product_additive n a) (bit_product_step n a) n b v
@@ -95,6 +101,7 @@ module _ (shape : FieldShape) (lawful : Lawful shape) where
   abbrev times : ℕ → ℕ → ℕ
   times a b = bit_product shape shape.width a b
 
+  -- the ring's laws, for polynomials of the width
   pub times_comm : (a b : ℕ) → a < 2 ^ shape.width → b < 2 ^ shape.width → times a b ≡ times b a
   times_comm a b ha hb =
       ap (times a) (sym (lawful.spanned b hb))

@@ -15,7 +15,7 @@ use crate::word::{Word, number, remainder};
 // How many numbers a group has.
 pub(crate) const GROUP: usize = 6;
 
-// A key and its powers, one for each number of a group.
+// A key and its powers up to the sixth: one for each number of a group.
 #[derive(Drop)]
 pub(crate) struct Powers {
     first: Word,
@@ -40,14 +40,15 @@ fn weigh(bytes: &[u8; 2], power: Word) -> u64
 }
 
 impl Powers {
+    // The key with its powers, each the key times the one before.
     pub(crate) fn new(key: Word) -> Powers
         ensures { result.first ≡ key }
     {
-        let second = key.times(key);
-        let third = key.times(second);
-        let fourth = key.times(third);
-        let fifth = key.times(fourth);
-        let sixth = key.times(fifth);
+        let second = key * key;
+        let third = key * second;
+        let fourth = key * third;
+        let fifth = key * fourth;
+        let sixth = key * fifth;
         Powers {
             first: key,
             second,
