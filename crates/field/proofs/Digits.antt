@@ -57,7 +57,8 @@ module _ (base : ℕ) (positive : zero < base) where
   unfolding numeral
   numeral_lt [] small = rw pow-zero (omega arith)
   numeral_lt (x ∷ xs) small =
-      subst (λ (n : ℕ). x * base ^ length xs + numeral base xs < n) (mul_comm base (base ^ length xs) ∙ sym (pow-suc base (length xs)))
+      subst (λ (n : ℕ). x * base ^ length xs + numeral base xs < n)
+      (mul_comm base (base ^ length xs) ∙ sym (pow-suc base (length xs)))
       (digits_lt (small zero) (numeral_lt xs (λ k. small (suc k))))
 
   -- what lies above the n lowest digits does not matter
@@ -66,7 +67,8 @@ module _ (base : ℕ) (positive : zero < base) where
   digits_high zero q r = refl
   digits_high (suc n) q r =
       let apart : q * base ^ suc n + r ≡ q * base * base ^ n + r =
-      ap (λ (x : ℕ). x + r) (ap (λ (x : ℕ). q * x) (pow-suc base n ∙ mul_comm (base ^ n) base) ∙ sym (mul_assoc q base (base ^ n))) in
+      ap (λ (x : ℕ). x + r)
+      (ap (λ (x : ℕ). q * x) (pow-suc base n ∙ mul_comm (base ^ n) base) ∙ sym (mul_assoc q base (base ^ n))) in
       let split : r ≡ r / base ^ n * base ^ n + r % base ^ n = sym (div-add-mod' r (base ^ n)) in
       let joined : q * base * base ^ n + r ≡ (q * base + r / base ^ n) * base ^ n + r % base ^ n =
       ap (λ (x : ℕ). q * base * base ^ n + x) split

@@ -18,8 +18,8 @@ pub record FieldShape : Type 0 where
   -- in a polynomial, the coefficient of x^k
   pub digit : ℕ → ℕ → ℕ
 
--- The coefficient of x^0 is the highest bit, so that x times a polynomial is a shift to the right. The bit that falls out stands for
--- x^width, which is `rest`, the modulus without its highest term, and that is xored in.
+-- The coefficient of x^0 is the highest bit, so that x times a polynomial is a shift to the right. The bit that falls out stands
+-- for x^width, which is `rest`, the modulus without its highest term, and that is xored in.
 abbrev pub high_first : ℕ → ℕ → FieldShape
 high_first width rest = record {
   width = width;
@@ -28,8 +28,8 @@ high_first width rest = record {
   digit = λ a k. a / 2 ^ (width - suc k) % 2;
 }
 
--- The coefficient of x^0 is the lowest bit, so that x times a polynomial is a shift to the left. The bit that falls out stands for
--- x^width, which is `rest`, the modulus without its highest term, and that is xored in.
+-- The coefficient of x^0 is the lowest bit, so that x times a polynomial is a shift to the left. The bit that falls out stands
+-- for x^width, which is `rest`, the modulus without its highest term, and that is xored in.
 abbrev pub low_first : ℕ → ℕ → FieldShape
 low_first width rest = record {
   width = width;

@@ -1,8 +1,8 @@
 // Products of polynomials over the bits, with no branch on a bit.
 //
-// The product of a and b is the sum, over the k whose coefficient in a is one, of x^k·b. So one pass over the coefficients of a, with
-// x^k·b in hand, comes to it: each turn adds that power under a mask of the coefficient, and multiplies it by x. It is the algorithm
-// of NIST SP 800-38D, section 6.3, where the coefficients of a choose by a branch.
+// The product of a and b is the sum of x^k·b over the k whose coefficient in a is one. So one pass over the coefficients of a, with
+// x^k·b in hand, comes to it: each turn adds what is in hand under a mask of the coefficient, and multiplies it by x. It is the
+// algorithm of NIST SP 800-38D, section 6.3, where the coefficients of a choose by a branch.
 ghost use Rattle.std.specs.Prelude.{◌≡◌, ℕ, ◌^◌, ◌<◌};
 ghost use Rattle.field.specs.Binary.{FieldShape, times_bit, bit_product};
 ghost use Rattle.field.specs.Products.{Lawful};

@@ -14,8 +14,8 @@ pub trait Encodes<E: Element + Copy>: Sized {
 
     /// start·r^n + P1·r^n + P2·r^(n-1) + .. + Pn·r for the key r and n items.
     ///
-    /// The items go in one by one, by Horner's rule. A kind whose items are so small that several steps fit in one sum takes several
-    /// together.
+    /// The items go in one by one, by Horner's rule. A kind whose items are so small that several steps fit in one sum takes
+    /// several together.
     fn absorb_row(key: E, start: E, items: &[Self]) -> E
         ensures { result ≡ eval_from E.Element key start (map element items.now) }
     {

@@ -1,8 +1,8 @@
 // Numbers of two bytes taken in six at a time, with one remainder for six steps of Horner's rule.
 //
 // Six steps from a value v on, at a key r, come to v·r^6 + a·r^6 + b·r^5 + c·r^4 + d·r^3 + e·r^2 + f·r. A value and a power of the
-// key are below 2^31, and a number of two bytes is below 2^16: v·r^6 is below 2^62 and each other product below 2^47, so that the sum
-// stays below 2^63. It fits in 64 bits as it stands, and one remainder at its end serves all six.
+// key are below 2^31, and a number of two bytes is below 2^16: v·r^6 is below 2^62 and each other product below 2^47, so that the
+// sum stays below 2^63. It fits in 64 bits as it stands, and one remainder at its end serves all six.
 ghost use Rattle.std.specs.Prelude.{◌≡◌, ◌*◌, ◌^◌, ◌<◌, map};
 ghost use Rattle.field.specs.Bytes.{word_of};
 ghost use Rattle.field.specs.Digits.{numeral};
