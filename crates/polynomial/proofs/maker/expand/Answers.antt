@@ -1,7 +1,7 @@
 use Rattle.std.proofs.Common.{◌≡◌, ℕ, ◌+◌, ◌<◌, ◌^◌, List, ◌++◌, length, take, drop, sym, refl, ap, ◌∙◌, ap₂, add-one, arith, drop-drop, length-take-le}
 use Rattle.std.proofs.lemmas.List.{take_at, drop_at}
 use Rattle.field.specs.Evaluation.{power}
-use Rattle.polynomial.specs.Steps.{lower_product, lower_conjugates}
+use Rattle.polynomial.specs.Steps.{lower_times_linear, lower_conjugates}
 use Rattle.polynomial.proofs.Conjugates.{length_lower, power_square}
 use Rattle.polynomial.proofs.Fill.{fill_more}
 use Rattle.polynomial.proofs.maker.expand.Goals as goal
@@ -23,7 +23,7 @@ loop-degree-preserved g c =
           ∙ ap (λ (n : ℕ). power m r (2 ^ n)) (sym (add-one i)),
       fill_more now c.multiply.new.coefficients i c.multiply.result within long
           ∙ ap₂ (λ xs ys. xs ++ ys)
-          (c.multiply.ensures ∙ ap₂ (λ z xs. lower_product m z m.zero xs m.one) c.loop-degree.invariant.0 front ∙ ap (lower_conjugates m r) (sym (add-one i)))
+          (c.multiply.ensures ∙ ap₂ (lower_times_linear m) c.loop-degree.invariant.0 front ∙ ap (lower_conjugates m r) (sym (add-one i)))
           on,
     )
 

@@ -2,7 +2,7 @@ use Rattle.std.proofs.Common.{arith, lit≤}
 use Rattle.field.specs.Instances.{block_residues}
 use Rattle.polynomial.specs.Coefficients.{block_places}
 use Rattle.polynomial.proofs.Coefficients.{flips}
-use Rattle.polynomial.proofs.blocks.BlockBinary.flip.Goals as goal
+use Rattle.polynomial.proofs.block.BlockBinary.flip.Goals as goal
 
 pub returns-then-k-lt128 : goal.returns-then-k-lt128
 returns-then-k-lt128 c =
