@@ -119,7 +119,8 @@ module _ (width rest : ℕ) where
 
   low_fits : rest < 2 ^ width → (v : ℕ) → low_step v < 2 ^ width
   low_fits hr v =
-      xor_lt width (v * 2 % 2 ^ width) (times_bit (top v) rest) (mod-lt (v * 2) (pow_pos width)) (times_bit-lt (top v) rest width hr)
+      xor_lt width (v * 2 % 2 ^ width) (times_bit (top v) rest)
+      (mod-lt (v * 2) (pow_pos width)) (times_bit-lt (top v) rest width hr)
 
   low_power : (k : ℕ) → k < width → times_x_power low_step k 1 ≡ 2 ^ k
   unfolding times_x_power

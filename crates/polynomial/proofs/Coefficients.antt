@@ -86,9 +86,9 @@ ones_parts k v u w mask e e' low =
 -- ---- the coefficients of an element
 
 -- an element whose number has its coefficients in their places
-module _ {V : Type 0} {shape : FieldShape} (placed : HasPlaces shape) (held : Residues V (2 ^ shape.width)) (x : V) where
+module _ {V : Type 0} {shape : FieldShape} (placed : HasPlaces shape) (residues : Residues V (2 ^ shape.width)) (x : V) where
   abbrev number : ℕ
-  number = held.value x
+  number = residues.value x
 
   bit_digit : (k : ℕ) → k < shape.width → bit_in shape number k ≡ (number / 2 ^ placed.place k % 2 == 1)
   bit_digit k h =
@@ -96,24 +96,26 @@ module _ {V : Type 0} {shape : FieldShape} (placed : HasPlaces shape) (held : Re
       ∙ ap (λ (d : ℕ). nat_eq d 1) (placed.digit number k)
 
   -- the test of one bit
-  pub tested : (k u t : ℕ) → k < shape.width → u ≡ number → t ≡ placed.place k → (bit_and (u / 2 ^ t) 1 == 1) ≡ bit_in shape number k
+  pub tested : (k u t : ℕ) → k < shape.width → u ≡ number → t ≡ placed.place k
+      → (bit_and (u / 2 ^ t) 1 == 1) ≡ bit_in shape number k
   tested k u t h e e' =
       ap (λ (n : ℕ). nat_eq n 1) (and_mask (u / 2 ^ t) 1 ∙ ap₂ (λ (n s : ℕ). n / 2 ^ s % 2) e e') ∙ sym (bit_digit k h)
 
   -- the flip of one bit
-  pub flips : (y : V) (k u t room : ℕ) → y ≡ held.enter (bit_xor u (1 * 2 ^ t % 2 ^ room)) → shape.width ≤ room
+  pub flips : (y : V) (k u t room : ℕ) → y ≡ residues.enter (bit_xor u (1 * 2 ^ t % 2 ^ room)) → shape.width ≤ room
       → k < shape.width → u ≡ number → t ≡ placed.place k
-      → (j : ℕ) → bit_in shape (held.value y) j ≡ bits_after_flip shape.width (bit_in shape number) k j
+      → (j : ℕ) → bit_in shape (residues.value y) j ≡ bits_after_flip shape.width (bit_in shape number) k j
   flips y k u t room made wide h e e' j =
       let place : ℕ = placed.place k in
       let one : 1 * 2 ^ t % 2 ^ room ≡ 2 ^ place =
       ap (λ (s : ℕ). 1 * 2 ^ s % 2 ^ room) e' ∙ ap (λ (n : ℕ). n % 2 ^ room) (one-mul (2 ^ place))
       ∙ mod-eq_of_lt (pow-lt (lt_of_lt_of_le (placed.within k h) wide)) in
-      let whole : held.value y ≡ bit_xor number (2 ^ place) =
-      ap held.value (made ∙ ap₂ (λ (m n : ℕ). held.enter (bit_xor m n)) e one)
-      ∙ value_below held (bit_xor number (2 ^ place)) (xor_lt shape.width number (2 ^ place) (held.fits x) (pow-lt (placed.within k h))) in
-      let after : shape.digit (held.value y) j ≡ bit_xor number (2 ^ place) / 2 ^ placed.place j % 2 =
-      placed.digit (held.value y) j ∙ ap (λ (n : ℕ). n / 2 ^ placed.place j % 2) whole in
+      let whole : residues.value y ≡ bit_xor number (2 ^ place) =
+      ap residues.value (made ∙ ap₂ (λ (m n : ℕ). residues.enter (bit_xor m n)) e one)
+      ∙ value_below residues (bit_xor number (2 ^ place))
+      (xor_lt shape.width number (2 ^ place) (residues.fits x) (pow-lt (placed.within k h))) in
+      let after : shape.digit (residues.value y) j ≡ bit_xor number (2 ^ place) / 2 ^ placed.place j % 2 =
+      placed.digit (residues.value y) j ∙ ap (λ (n : ℕ). n / 2 ^ placed.place j % 2) whole in
       let before = placed.digit number j in
       let turn = next_base_digit number (placed.place j) place in
       let apart = placed.apart j k in
@@ -122,6 +124,6 @@ module _ {V : Type 0} {shape : FieldShape} (placed : HasPlaces shape) (held : Re
   -- the count of the ones
   pub weighed : (w : ℕ) → w ≡ ones number → w ≡ ones_below shape.width (bit_in shape number)
   weighed w e =
-      e ∙ ap ones (sym (mod-eq_of_lt (held.fits x))) ∙ sym (ones_low shape.width number)
+      e ∙ ap ones (sym (mod-eq_of_lt (residues.fits x))) ∙ sym (ones_low shape.width number)
       ∙ sym (placed.every (λ s. nat_eq (number / 2 ^ s % 2) 1))
       ∙ sym (same_ones shape.width (bit_in shape number) (λ k. nat_eq (number / 2 ^ placed.place k % 2) 1) bit_digit)

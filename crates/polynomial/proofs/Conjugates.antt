@@ -19,7 +19,8 @@ module _ {K : Type 0} (m : Ghosts K) where
 
 module _ {K : Type 0} (m : Ghosts K) (laws : CommutativeRing m.zero m.one m.sum m.product) where
   -- the highest coefficient stays one
-  linear_lower : (z before : K) (cs : List K) → linear_from m z before (cs ++ m.one ∷ []) ≡ lower_linear_from m z before cs ++ m.one ∷ []
+  linear_lower : (z before : K) (cs : List K)
+      → linear_from m z before (cs ++ m.one ∷ []) ≡ lower_linear_from m z before cs ++ m.one ∷ []
   linear_lower z before [] = ap (λ x. m.sum before x ∷ m.one ∷ []) (laws.product_one z)
   linear_lower z before (c ∷ cs) = ap (λ (xs : List K). m.sum before (m.product z c) ∷ xs) (linear_lower z c cs)
 

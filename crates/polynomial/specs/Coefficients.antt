@@ -23,14 +23,15 @@ pub reversed_ones : (n : ℕ) (f : ℕ → Bool) → ones_below n (λ k. f (n - 
 unfolding ones_below
 reversed_ones zero f = refl
 reversed_ones (suc n) f =
-    let inner : (k : ℕ) → k < n → f (suc n - suc k) ≡ f (suc (n - suc k)) = λ k h. let e : suc n - suc k ≡ suc (n - suc k) = omega arith in ap f e in
+    let inner : (k : ℕ) → k < n → f (suc n - suc k) ≡ f (suc (n - suc k)) =
+    λ k h. let e : suc n - suc k ≡ suc (n - suc k) = omega arith in ap f e in
     let last : suc n - suc n ≡ zero = omega arith in
     ap₂ (λ (x m : ℕ). x + (if f m then 1 else 0))
     (same_ones n (λ k. f (suc n - suc k)) (λ k. f (suc (n - suc k))) inner ∙ reversed_ones n (λ k. f (suc k)))
     last
     ∙ sym (first_one n f)
 
--- Where a shape has its coefficients among the bits of a number: each in a place of its own, and one in every place below the width.
+-- Where a shape has its coefficients among the bits of a number: each in a place of its own, and one in each place below the width.
 pub record HasPlaces (shape : FieldShape) : Type 0 where
   pub place : ℕ → ℕ
   pub digit : (v k : ℕ) → shape.digit v k ≡ v / 2 ^ place k % 2

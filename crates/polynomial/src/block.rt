@@ -31,7 +31,7 @@ impl Binary for Block {
         self == Block::zero()
     }
 
-    // The ones of each half are counted apart, each in one instruction.
+    // The ones are counted over the two halves of the coefficients, 64 in each.
     fn weight(self) -> u32 {
         let bits = self.bits();
         let high = (bits >> 64) as u64;

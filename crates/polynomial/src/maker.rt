@@ -1,12 +1,13 @@
-// The maker: the product of t + root over the conjugates of a subkey, which are subkey, subkey^2, subkey^4, .., each the square of the
-// one before, as many as an element has coefficients. The subkey is the first root, so that the product annihilates it.
+// The maker: the product of t + root over the conjugates of a subkey. These are root, root^2, root^4, .., each the square of the
+// one before, from the subkey on, as many as an element has coefficients. The subkey is one of them, so the product annihilates it.
 //
-// The product grows in the scratch, one factor a round, its highest coefficient always one and never stored. Multiplying by t + root
-// moves every coefficient one place up and adds root times what stood there, so one pass from the lowest with the last value in hand
-// does it in place; what is in hand at the end goes into the next place.
+// The product grows in the scratch, one factor a round. Its highest coefficient is always one and never stored. Multiplying by
+// t + root moves every coefficient one place up and adds root times what stood there, so one pass from the lowest with the last
+// value in hand does it in place. What is in hand at the end makes the coefficient of the next place.
 //
-// Squaring permutes the conjugates where a kind is the field of 2^width elements, so that every coefficient of the product is its own
-// square: zero or one. Of another kind that need not hold, so every coefficient is looked at, and the maker refuses where one is neither.
+// In a field of 2^width elements squaring permutes the conjugates, so that every coefficient of the product is its own square: zero
+// or one. The laws of a binary kind do not say that it is such a field, so the maker looks at each coefficient and refuses one that
+// is neither.
 ghost use Rattle.std.specs.Prelude.{◌≡◌, ◌≤◌, [], ◌∷◌, ◌++◌, length, IfOk};
 ghost use Rattle.polynomial.specs.Outcomes.{Makes, scratch_after};
 ghost use Rattle.polynomial.specs.Polynomials.{Annihilates, IsProductOfFactors};
@@ -59,12 +60,12 @@ pub(crate) fn read_bits<K: Binary>(coefficients: &[K]) -> Option<K>
     Some(proposal)
 }
 
-/// The polynomial of all conjugates of a subkey: the product of t + subkey^(2^i) for i below the kind's width, which annihilates the
-/// subkey. The answer has its coefficients, that of t^j at index j, but for the highest, which is one.
+/// The polynomial of all conjugates of a subkey: the product of t + subkey^(2^i) for i below the kind's width, which annihilates
+/// the subkey. The answer has its coefficients, that of t^j at index j, but for the highest, which is one.
 ///
 /// It refuses with `ScratchTooShort` where the scratch holds fewer elements than the kind's width (128 for blocks), and with
-/// `NotBinary` where a coefficient is neither zero nor one. The scratch is lent for this call alone: as many elements at its front are
-/// zero afterwards, so that it goes with no subkey, and the others stay. One that is too short is not touched.
+/// `NotBinary` where a coefficient is neither zero nor one. The scratch is lent for this call alone: as many elements at its front
+/// as the width are zero afterwards, so that none tells the subkey, and the others stay. One that is too short is not touched.
 pub fn make_polynomial<K: Binary>(subkey: K, scratch: &mut [K]) -> Result<K, Refusal>
     ensures value { Makes K.Binary.own K.Element (length scratch.old) subkey result }
     ensures annihilates { IfOk result

@@ -1,8 +1,8 @@
 // The trial of a proposal: does it annihilate the subkey?
 //
-// A proposal stands for t^width and the sum of t^k over the k where it has a one. The powers of the subkey are written to the scratch,
-// the zeroth first; those where the proposal has a one are summed, and the next power, of the highest term, is added. The proposal
-// annihilates the subkey where that comes to zero.
+// A proposal stands for t^width plus the sum of t^k over the k where it has a one. The powers of the subkey are written to the
+// scratch, the zeroth first. Those where the proposal has a one are summed, and the next power, that of the highest term, is added:
+// the proposal annihilates the subkey where that comes to zero.
 ghost use Rattle.std.specs.Prelude.{◌≡◌, length};
 ghost use Rattle.field.specs.Evaluation.{power};
 ghost use Rattle.polynomial.specs.Outcomes.{TriesProposal, scratch_after};
@@ -39,18 +39,20 @@ pub(crate) fn sum_powers<K: Binary>(powers: &[K], proposal: K) -> K
         .fold(K::zero(), |sum, (_, power)| sum.plus(*power))
 }
 
-/// Accepts a proposal exactly when it annihilates the subkey. The proposal's coefficient of index j is that of t^j, and the highest, of
-/// t to the kind's width, is one and not given.
+/// Accepts a proposal exactly when it annihilates the subkey. The proposal's coefficient of index j is that of t^j. The highest,
+/// that of t to the kind's width, is one and not given.
 ///
 /// It refuses with `ScratchTooShort` where the scratch holds fewer elements than the kind's width (128 for blocks), and with
-/// `DoesNotAnnihilate` where the value at the subkey is not zero. The scratch is lent for this call alone: as many elements at its front
-/// are zero afterwards, so that it goes with no subkey, and the others stay. One that is too short is not touched.
+/// `DoesNotAnnihilate` where the value at the subkey is not zero. The scratch is lent for this call alone: as many elements at its
+/// front as the width are zero afterwards, so that none tells the subkey, and the others stay. One that is too short is not
+/// touched.
 pub fn try_polynomial<K: Binary>(
     subkey: K,
     proposal: K,
     scratch: &mut [K],
 ) -> Result<Trial<K>, Refusal>
-    ensures value { TriesProposal K.Binary.own K.Element (length scratch.old) subkey proposal result }
+    ensures value { TriesProposal K.Binary.own K.Element (length scratch.old)
+        subkey proposal result }
     ensures scratch { scratch.new ≡ scratch_after K.Element K.Binary.width scratch.old }
 {
     if scratch.len() < K::width() {

@@ -1,6 +1,6 @@
-// The scratch that the trial and the maker borrow: as many elements as a polynomial has coefficients, the front of what a caller lends.
+// The scratch that the trial and the maker borrow: of what a caller lends, as many elements as a polynomial has coefficients.
 //
-// What is written there tells the subkey, so the guard zeroes it when it goes, on whichever way the call ends.
+// What they write there tells the subkey. So the scratch is held by a guard, which zeroes it when it goes, however the call ends.
 ghost use Rattle.std.specs.Prelude.{◌≡◌, length, replicate};
 
 use crate::binary::Binary;
@@ -29,7 +29,8 @@ impl<K: Binary> Scratch<'_, K> {
         highest.plus(sum_powers(powers, proposal))
     }
 
-    // The proposal that is the product of all conjugate factors, expanded in the scratch, or none where it has no bits for coefficients.
+    // The proposal that is the product of all conjugate factors, or none where some coefficient of the product is neither zero nor
+    // one. The product is expanded in the scratch.
     pub(crate) fn find_bits(&mut self, subkey: K) -> Option<K>
         ensures same_reference { self.new.elements.ghost_name ≡ self.old.elements.ghost_name }
         ensures value { Reads K.Element K.Binary.bits K.Binary.width

@@ -6,4 +6,5 @@ use Rattle.polynomial.proofs.block.BlockBinary.flip.Goals as goal
 
 pub returns-then-k-lt128 : goal.returns-then-k-lt128
 returns-then-k-lt128 c =
-    flips block_places block_residues c.args.self _ c.args.k _ _ 128 c.new.ensures (lit≤ tt) (omega arith) (omega arith) (omega arith)
+    flips block_places block_residues c.args.self _ c.args.k _ _ 128 c.new.ensures
+    (lit≤ tt) (omega arith) (omega arith) (omega arith)

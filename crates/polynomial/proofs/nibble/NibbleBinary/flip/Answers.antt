@@ -6,4 +6,5 @@ use Rattle.polynomial.proofs.nibble.NibbleBinary.flip.Goals as goal
 
 pub returns-then-k-lt4 : goal.returns-then-k-lt4
 returns-then-k-lt4 c =
-    flips nibble_places nibble_residues c.args.self _ c.args.k _ _ 8 c.new.ensures (lit≤ tt) (omega arith) (omega arith) (omega arith)
+    flips nibble_places nibble_residues c.args.self _ c.args.k _ _ 8 c.new.ensures
+    (lit≤ tt) (omega arith) (omega arith) (omega arith)
