@@ -46,7 +46,7 @@ digits_append base (suc s) t v =
     (digits_append base s t v)
 
 module _ (base : ℕ) (positive : zero < base) where
-  pub pow_positive : (n : ℕ) → zero < base ^ n
+  pow_positive : (n : ℕ) → zero < base ^ n
   pow_positive zero = rw pow-zero (omega arith)
   pow_positive (suc n) = subst (λ (p : ℕ). zero < p) (sym (pow-suc base n)) (mul-pos (pow_positive n) positive)
 
@@ -57,16 +57,18 @@ module _ (base : ℕ) (positive : zero < base) where
   unfolding numeral
   numeral_lt [] small = rw pow-zero (omega arith)
   numeral_lt (x ∷ xs) small =
-      subst (λ (n : ℕ). x * base ^ length xs + numeral base xs < n) (mul_comm base (base ^ length xs) ∙ sym (pow-suc base (length xs)))
+      subst (λ (n : ℕ). x * base ^ length xs + numeral base xs < n)
+      (mul_comm base (base ^ length xs) ∙ sym (pow-suc base (length xs)))
       (digits_lt (small zero) (numeral_lt xs (λ k. small (suc k))))
 
   -- what lies above the n lowest digits does not matter
-  pub digits_high : (n q r : ℕ) → digits base n (q * base ^ n + r) ≡ digits base n r
+  digits_high : (n q r : ℕ) → digits base n (q * base ^ n + r) ≡ digits base n r
   unfolding digits
   digits_high zero q r = refl
   digits_high (suc n) q r =
       let apart : q * base ^ suc n + r ≡ q * base * base ^ n + r =
-      ap (λ (x : ℕ). x + r) (ap (λ (x : ℕ). q * x) (pow-suc base n ∙ mul_comm (base ^ n) base) ∙ sym (mul_assoc q base (base ^ n))) in
+      ap (λ (x : ℕ). x + r)
+      (ap (λ (x : ℕ). q * x) (pow-suc base n ∙ mul_comm (base ^ n) base) ∙ sym (mul_assoc q base (base ^ n))) in
       let split : r ≡ r / base ^ n * base ^ n + r % base ^ n = sym (div-add-mod' r (base ^ n)) in
       let joined : q * base * base ^ n + r ≡ (q * base + r / base ^ n) * base ^ n + r % base ^ n =
       ap (λ (x : ℕ). q * base * base ^ n + x) split

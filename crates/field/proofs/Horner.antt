@@ -1,6 +1,5 @@
 -- Horner's rule, from the laws of a commutative ring.
-use Rattle.std.proofs.Common.{◌≡◌, ℕ, suc, ◌+◌, ◌<◌, List, [], ◌∷◌, ◌++◌, fold, length, get_or, take, sym, refl, ap, ◌∙◌, ap₂, append_assoc, append-nil, add-one, length-append}
-use Rattle.std.proofs.lemmas.List.{take_more}
+use Rattle.std.proofs.Common.{◌≡◌, suc, List, [], ◌∷◌, ◌++◌, fold, length, sym, refl, ap, ◌∙◌, ap₂, append_assoc, append-nil, add-one, length-append}
 use Rattle.field.specs.Ring.{CommutativeRing}
 use Rattle.field.specs.Evaluation.{power, eval, eval_from, horner}
 use Rattle.field.specs.declared.element.Element.{Ghosts}
@@ -16,7 +15,7 @@ module _ {R : Type 0} (m : Ghosts R) (laws : CommutativeRing m.zero m.one m.sum 
       ∙ ap₂ m.sum (laws.product_comm z x) (laws.product_comm z y)
 
   -- one item more at the end
-  pub eval_push : (r : R) (ps : List R) (q : R) → eval m r (ps ++ (q ∷ [])) ≡ m.product (m.sum (eval m r ps) q) r
+  eval_push : (r : R) (ps : List R) (q : R) → eval m r (ps ++ (q ∷ [])) ≡ m.product (m.sum (eval m r ps) q) r
   eval_push r [] q =
       sym
       (ap (λ x. m.product x r) (zero_sum q)
@@ -34,13 +33,6 @@ module _ {R : Type 0} (m : Ghosts R) (laws : CommutativeRing m.zero m.one m.sum 
       ∙ ap (m.product p) (laws.product_comm w r)
       ∙ ap (λ n. m.product p (m.product r (power m r n))) (sym longer))
       (sym (eval_push r ps q)))
-
-  -- one item more of a list that is walked through
-  pub eval_next : (r : R) (xs : List R) (i : ℕ) (x : R) → i < length xs → x ≡ get_or xs i x
-      → m.product (m.sum (eval m r (take i xs)) x) r ≡ eval m r (take (i + 1) xs)
-  eval_next r xs i x within read =
-      let pushed : take (i + 1) xs ≡ take i xs ++ (x ∷ []) = take_more xs i x within ∙ ap (λ y. take i xs ++ (y ∷ [])) (sym read) in
-      sym (eval_push r (take i xs) x) ∙ ap (eval m r) (sym pushed)
 
   pub horner_append : (r v : R) (ps qs : List R) → horner m r v (ps ++ qs) ≡ horner m r (horner m r v ps) qs
   horner_append r v [] qs = refl

@@ -57,7 +57,8 @@ module _ (base : ℕ) (big : 1 < base) where
       let front : 0 < n / base = (le-div_iff_mul-le {k = base} {x = 1} {y = n} (omega arith)).1 (omega arith) in
       let some : n / base ≡ 0 → ⊥ = λ none. omega arith in
       ap (filled (suc (suc k) + length acc)) (cond-false _ _ _ (ne_eqb _ 0 some))
-      ∙ ap (λ (width : ℕ). filled width (spelled fuel (n / base) (glyph ∷ acc))) {x = suc (suc k) + length acc} {y = suc k + suc (length acc)} (omega arith)
+      ∙ ap (λ (width : ℕ). filled width (spelled fuel (n / base) (glyph ∷ acc)))
+      {x = suc (suc k) + length acc} {y = suc k + suc (length acc)} (omega arith)
       ∙ rest
       ∙ sym (ap (λ (ds : List ℕ). ds ++ acc) (last (suc k) n) ∙ append_assoc (digits_text base (suc k) (n / base)) (glyph ∷ []) acc)
 
@@ -66,10 +67,12 @@ module _ (base : ℕ) (big : 1 < base) where
       → filled (suc k + length acc) (spelled fuel n acc) ≡ digits_text base (suc k) n ++ acc
   padded zero k n acc room fits = absurd (omega arith)
   padded (suc fuel) zero n acc room fits =
-      one fuel zero n acc (subst (λ (p : ℕ). n < p) (pow-suc base zero ∙ ap (λ (p : ℕ). p * base) (pow-zero base) ∙ one-mul base) fits)
+      one fuel zero n acc
+      (subst (λ (p : ℕ). n < p) (pow-suc base zero ∙ ap (λ (p : ℕ). p * base) (pow-zero base) ∙ one-mul base) fits)
   padded (suc fuel) (suc k) n acc room fits =
       let glyph : ℕ = digit_glyph false (n % base) in
-      let shorter : n / base < base ^ suc k = div_below n base (base ^ suc k) (omega arith) (subst (λ (p : ℕ). n < p) (pow-suc base (suc k)) fits) in
+      let shorter : n / base < base ^ suc k =
+      div_below n base (base ^ suc k) (omega arith) (subst (λ (p : ℕ). n < p) (pow-suc base (suc k)) fits) in
       let rest = padded fuel k (n / base) (glyph ∷ acc) (omega arith) shorter in
       ⊎_elim (one fuel (suc k) n acc) (λ large. more fuel k n acc large rest) (cases_lt n base)
 
@@ -83,7 +86,8 @@ module _ (base : ℕ) (big : 1 < base) where
   as_filled : (width : ℕ) (ds : List ℕ) → padded_integral (format_spec 32 0 4 width (2 ^ 64 - 1)) false [] ds ≡ filled width ds
   unfolding padded_integral char_count
   as_filled width ds =
-      ap₂ (λ (zeros : ℕ) (tail : List ℕ). replicate zeros 48 ++ tail) {x = width - length ds - 0 - 0} {y = width - length ds} (omega arith) (append-nil ds)
+      ap₂ (λ (zeros : ℕ) (tail : List ℕ). replicate zeros 48 ++ tail)
+      {x = width - length ds - 0 - 0} {y = width - length ds} (omega arith) (append-nil ds)
 
   pub zero_filled : (k n : ℕ) → k < 64 → n < base ^ suc k
       → padded_integral (format_spec 32 0 4 (suc k) (2 ^ 64 - 1)) false [] (numeral base false n) ≡ digits_text base (suc k) n

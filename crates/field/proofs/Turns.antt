@@ -7,10 +7,10 @@ use lib.Bits.{bit_xor, bit_and, and_mask, and_zero_r}
 use Rattle.field.specs.Binary.{FieldShape, times_bit, times_x_power, bit_product}
 
 -- a mask of ones or zeros in place of a branch
-pub masked_part : (bit v width : ℕ) → bit < 2 → v < 2 ^ width → bit_and v (bit * (2 ^ width - 1)) ≡ times_bit bit v
-masked_part zero v width h below = ap (bit_and v) (zero-mul (2 ^ width - 1)) ∙ and_zero_r v
-masked_part (suc zero) v width h below = ap (bit_and v) (one-mul (2 ^ width - 1)) ∙ and_mask v width ∙ mod-eq_of_lt below
-masked_part (suc (suc bit)) v width h below = absurd (omega arith)
+pub mask-times_bit : (bit v width : ℕ) → bit < 2 → v < 2 ^ width → bit_and v (bit * (2 ^ width - 1)) ≡ times_bit bit v
+mask-times_bit zero v width h below = ap (bit_and v) (zero-mul (2 ^ width - 1)) ∙ and_zero_r v
+mask-times_bit (suc zero) v width h below = ap (bit_and v) (one-mul (2 ^ width - 1)) ∙ and_mask v width ∙ mod-eq_of_lt below
+mask-times_bit (suc (suc bit)) v width h below = absurd (omega arith)
 
 -- the top bit of a number moved up, where j places are left
 pub moved_top : (n k j : ℕ) → n * 2 ^ k % 2 ^ (1 + (j + k)) / 2 ^ (j + k) ≡ n / 2 ^ j % 2
@@ -22,7 +22,8 @@ moved_top n k j =
     ∙ ap (λ (x : ℕ). x % 2) (mul-div-mul_right n (2 ^ j) (pow_pos k))
 
 module _ (shape : FieldShape) (n a b : ℕ) where
-  pub one_more_power : (v next : ℕ) → v ≡ times_x_power shape.step n b → next ≡ shape.step v → next ≡ times_x_power shape.step (n + 1) b
+  pub one_more_power : (v next : ℕ) → v ≡ times_x_power shape.step n b → next ≡ shape.step v
+      → next ≡ times_x_power shape.step (n + 1) b
   unfolding times_x_power
   one_more_power v next e e' = e' ∙ ap shape.step e ∙ ap (λ (m : ℕ). times_x_power shape.step m b) (sym (add-one n))
 

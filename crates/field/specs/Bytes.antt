@@ -5,9 +5,11 @@ use Rattle.field.specs.Kinds.{block, word}
 use Rattle.field.specs.declared.block.Block.{Block}
 use Rattle.field.specs.declared.word.Word.{Word}
 
+-- the block that 16 bytes write
 abbrev pub block_of : List ℕ → Block
 block_of bytes = block (numeral 256 bytes)
 
+-- the 16 bytes of a block
 abbrev pub bytes_of : Block → List ℕ
 bytes_of b = digits 256 16 b.bits
 

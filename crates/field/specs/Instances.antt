@@ -1,4 +1,4 @@
--- The three kinds as residues numbers, and their rings.
+-- Blocks, nibbles and words are residues, and each kind is a commutative ring.
 use Rattle.std.specs.Prelude.{◌≡◌, ◌-◌, ◌*◌, ◌^◌, ◌<◌, bit_xor, refl}
 use Rattle.std.proofs.Common.{ap, lit<}
 use mathlib.Core.HLevel.{is_prop→PathP}
@@ -16,7 +16,7 @@ use Rattle.field.specs.Orders.{high_lawful, low_lawful}
 use Rattle.field.specs.BinaryRing.{binary_ring, sum_number, product_number}
 use Rattle.field.specs.ModularRing.{modular_ring}
 
--- a range has one proof, so a value is known by its number
+-- that a number lies below its limit has one proof, so a value is known by its number
 pub same_block : (u v : Block) → u.bits ≡ v.bits → u ≡ v
 same_block u v e i = record { bits = e i; fits = is_prop→PathP (λ j. e j < 2 ^ 128) (λ j. le_prop) u.fits v.fits i }
 
@@ -35,12 +35,14 @@ nibble_residues = record { value = λ v. v.bits; fits = λ v. v.fits; enter = ni
 abbrev pub word_residues : Residues Word (2 ^ 31 - 1)
 word_residues = record { value = λ v. v.value; fits = λ v. v.fits; enter = word; value_enter = λ n. refl; same = same_word }
 
+-- the two shapes are lawful: the modulus without its highest term is written within the width
 pub block_lawful : Lawful block_shape
 block_lawful = high_lawful 128 (0xE1 * 2 ^ 120) (lit< tt) (lit< tt)
 
 pub nibble_lawful : Lawful nibble_shape
 nibble_lawful = low_lawful 4 3 (lit< tt) (lit< tt)
 
+-- the laws of the three rings
 pub block_ring_laws : CommutativeRing block_ring.zero block_ring.one block_ring.sum block_ring.product
 block_ring_laws = binary_ring block_shape block_lawful block_residues
 
@@ -50,14 +52,14 @@ nibble_ring_laws = binary_ring nibble_shape nibble_lawful nibble_residues
 pub word_ring_laws : CommutativeRing word_ring.zero word_ring.one word_ring.sum word_ring.product
 word_ring_laws = modular_ring word_residues (lit< tt)
 
--- the bits of a sum and of a product of blocks
+-- the bits of a sum and of a product of blocks, with no remainder
 pub block_sum_bits : (u v : Block) → (block_ring.sum u v).bits ≡ bit_xor u.bits v.bits
 block_sum_bits = sum_number block_shape block_lawful block_residues
 
 pub block_product_bits : (u v : Block) → (block_ring.product u v).bits ≡ bit_product block_shape 128 u.bits v.bits
 block_product_bits = product_number block_shape block_lawful block_residues
 
--- twice anything is zero
+-- an element is its own negative
 pub block_even : (x : Block) → block_ring.sum x x ≡ block_ring.zero
 block_even x = ap block (xor_self x.bits)
 

@@ -1,4 +1,4 @@
--- The ring of the numbers below m, with sum and product modulo m, residues in any type of them.
+-- The residues below m are a commutative ring, with sum and product modulo m, in any type whose values are those residues.
 use Rattle.std.specs.Prelude.{◌≡◌, ℕ, zero, ◌+◌, ◌-◌, ◌*◌, ◌/◌, ◌%◌, ◌<◌}
 use Rattle.std.proofs.Common.{sym, ap, ap₂, ◌∙◌, add_assoc, add_comm, add-zero, mul_assoc, mul_comm, mul-one, mul-add, mod-eq_of_lt, div-add-mod', arith}
 use Rattle.std.proofs.Math.Nat.{mod-add-mod, add-mod-mod, mod_self, mul-add-mod_self_right}

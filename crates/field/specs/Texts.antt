@@ -18,5 +18,6 @@ block_text b = digits_text 16 32 b.bits
 abbrev pub nibble_text : Nibble → List ℕ
 nibble_text n = digits_text 2 4 n.bits
 
+-- the number in decimal
 abbrev pub word_text : Word → List ℕ
 word_text w = decimal w.value

@@ -1,8 +1,8 @@
 // Blocks of 16 bytes, the field over which GHASH runs (NIST SP 800-38D, section 6.3).
 //
 // A block holds 128 coefficients, each zero or one, and its bits are read from the left: the coefficient of x^0 is the highest bit.
-// So the sum is an xor, and x times a block is a shift to the right. The bit that falls out at the right stood for x^127, and so for
-// x^128 after the shift, which is x^7 + x^2 + x + 1: that is xored in again.
+// So the sum is an xor, and x times a block is a shift to the right. The bit that falls out at the right stood for x^127, and so
+// for x^128 after the shift, which is x^7 + x^2 + x + 1: that is xored in again.
 ghost use Rattle.std.specs.Prelude.{◌≡◌, ◌+◌, ◌*◌, ◌^◌, ◌<◌, refl, Some};
 
 use crate::binary::{Polynomial, masked, product};

@@ -1,11 +1,11 @@
-// Elements that can be added and multiplied, and the value of a row of them at a key.
+// Elements that can be added and multiplied: blocks, nibbles and words. And the evaluation of a row of them at a key.
 #![tactic(auto)]
 
 mod binary;
 mod block;
 mod element;
 mod encodes;
-mod evaluator;
+mod evaluation;
 mod nibble;
 mod powers;
 mod word;
@@ -13,6 +13,6 @@ mod word;
 pub use block::Block;
 pub use element::Element;
 pub use encodes::Encodes;
-pub use evaluator::evaluate;
+pub use evaluation::evaluate;
 pub use nibble::Nibble;
 pub use word::Word;

@@ -1,7 +1,7 @@
 // Words: whole numbers modulo the prime 2^31 - 1, in which the check at the end of a file's block is worked out.
 //
-// 2^31 leaves 1, so that the remainder needs no division: the bits from the 31st on count as a number of their own, which is added to
-// the 31 lowest. A sum or a product is taken as it comes, and brought below the modulus once.
+// 2^31 leaves 1, so that the remainder needs no division: the bits from the 31st on count as a number of their own, which is added
+// to the 31 lowest. A sum or a product is taken as it comes, and brought below the modulus once.
 ghost use Rattle.std.specs.Prelude.{◌≡◌, ◌-◌, ◌*◌, ◌%◌, ◌^◌, ◌<◌, Some};
 ghost use Rattle.field.specs.Digits.{numeral};
 

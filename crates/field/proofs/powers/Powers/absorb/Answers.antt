@@ -43,7 +43,8 @@ returns c =
     ap₂ (λ (x y : ℕ). x * y) c.from.ensures c.from-2.ensures ∙ ap (λ (w : Word). v.value * w.value) six in
     let total : ℕ = v.value * (raised 6).value + weighed r (spelled 6 at) in
     let summed : c.remainder.result ≡ total % (2 ^ 31 - 1) =
-    c.remainder.ensures ∙ ap (λ (n : ℕ). n % (2 ^ 31 - 1)) (gather _ _ _ _ _ _ _ _ _ _ _ _ _ _ risen first second third fourth fifth sixth) in
+    c.remainder.ensures
+    ∙ ap (λ (n : ℕ). n % (2 ^ 31 - 1)) (gather _ _ _ _ _ _ _ _ _ _ _ _ _ _ risen first second third fourth fifth sixth) in
     entered_mod word_residues _ total summed
     ∙ word_from r v (spelled 6 at)
     ∙ ap (λ (ns : List (List ℕ)). eval_from word_ring r v (map word_of ns)) (sym spelt)

@@ -21,9 +21,11 @@ returns c =
     let taken : Word → Word → Word = λ value item. word_ring.product (word_ring.sum value item) r in
     let group_in : Word → List (List ℕ) → Word = λ value group. eval_from word_ring r value (map word_of group) in
     let whole : c.fold-whole.result ≡ fold group_in c.args.start groups =
-    fold_from_yields_List _ group_in _ _ c.fold-whole.ensures.ran (YieldsList-from_slice groups c.iter.ensures.rest) (λ value item q s k. search rules) in
+    fold_from_yields_List _ group_in _ _ c.fold-whole.ensures.ran
+    (YieldsList-from_slice groups c.iter.ensures.rest) (λ value item q s k. search rules) in
     let left : c.fold.result ≡ horner word_ring r c.fold-whole.result (map word_of rest) =
-    fold_from_yields_List _ (λ value item. taken value (word_of item)) _ _ c.fold.ensures.ran (YieldsList-from_slice rest c.iter-2.ensures.rest) (λ value item q s k. search rules)
+    fold_from_yields_List _ (λ value item. taken value (word_of item)) _ _ c.fold.ensures.ran
+    (YieldsList-from_slice rest c.iter-2.ensures.rest) (λ value item q s k. search rules)
     ∙ sym (fold-map taken word_of c.fold-whole.result rest)
     ∙ fold_horner word_ring word_ring_laws r c.fold-whole.result (map word_of rest) in
     left

@@ -3,7 +3,7 @@ use lib.Count.{ones}
 use Rattle.field.specs.Instances.{nibble_residues}
 use Rattle.polynomial.specs.Coefficients.{nibble_places}
 use Rattle.polynomial.proofs.Coefficients.{weighed}
-use Rattle.polynomial.proofs.nibbles.NibbleBinary.weight.Goals as goal
+use Rattle.polynomial.proofs.nibble.NibbleBinary.weight.Goals as goal
 
 pub returns : goal.returns
 returns c = weighed nibble_places nibble_residues c.args.self _ (omega (arith, ap ones c.bits.ensures))

@@ -1,7 +1,7 @@
 use Rattle.field.specs.Instances.{block_residues}
 use Rattle.polynomial.specs.Coefficients.{block_places}
 use Rattle.polynomial.proofs.Coefficients.{ones_parts, weighed}
-use Rattle.polynomial.proofs.blocks.BlockBinary.weight.Goals as goal
+use Rattle.polynomial.proofs.block.BlockBinary.weight.Goals as goal
 
 pub returns : goal.returns
 returns c =

@@ -1,23 +1,15 @@
-// Nibbles as a binary kind.
-ghost use Rattle.field.specs.Kinds.{nibble_shape};
-ghost use Rattle.polynomial.specs.Bits.{bit_in};
-ghost use Rattle.field.specs.Instances.{nibble_even};
-ghost use Rattle.polynomial.specs.Coefficients.{no_ones, nibble_places};
-ghost use Rattle.std.proofs.Common.{lit<};
-
+// Nibbles as polynomials over the bits: the coefficient of index k is bit k of the number, counted from the lowest.
 use crate::binary::Binary;
 use field::{Element, Nibble};
 
 impl Binary for Nibble {
+    ghost use Rattle.polynomial.specs.Nibbles.{nibble_coefficients, nibble_laws};
+
     ghost width = { 4 };
 
-    ghost bits = { λ b k. bit_in nibble_shape b.bits k };
+    ghost bits = { nibble_coefficients };
 
-    ghost wide = { lit< tt };
-
-    ghost blank = { λ k. no_ones nibble_places k };
-
-    ghost even = { nibble_even };
+    ghost laws = { nibble_laws };
 
     fn width() -> usize {
         4

@@ -1,23 +1,15 @@
-// Blocks as a binary kind.
-ghost use Rattle.field.specs.Kinds.{block_shape};
-ghost use Rattle.polynomial.specs.Bits.{bit_in};
-ghost use Rattle.field.specs.Instances.{block_even};
-ghost use Rattle.polynomial.specs.Coefficients.{no_ones, block_places};
-ghost use Rattle.std.proofs.Common.{lit<};
-
+// Blocks as polynomials over the bits: the coefficient of index k is bit 127 - k of the number, counted from the lowest.
 use crate::binary::Binary;
 use field::{Block, Element};
 
 impl Binary for Block {
+    ghost use Rattle.polynomial.specs.Blocks.{block_laws, coefficients_of};
+
     ghost width = { 128 };
 
-    ghost bits = { λ b k. bit_in block_shape b.bits k };
+    ghost bits = { coefficients_of };
 
-    ghost wide = { lit< tt };
-
-    ghost blank = { λ k. no_ones block_places k };
-
-    ghost even = { block_even };
+    ghost laws = { block_laws };
 
     fn width() -> usize {
         128
@@ -39,7 +31,7 @@ impl Binary for Block {
         self == Block::zero()
     }
 
-    // Counted over the two halves of the coefficients, by each half's own count.
+    // The ones are counted over the two halves of the coefficients, 64 in each.
     fn weight(self) -> u32 {
         let bits = self.bits();
         let high = (bits >> 64) as u64;
