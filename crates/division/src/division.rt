@@ -4,17 +4,17 @@
 // at the subkey H is T: put H for t, and it comes to T.
 //
 // A block P has to make T become (T + P)·H. That is the value at H of t·(W + P): the block added to the constant term, and each
-// coefficient moved one place up. Its degree may be 128, so it is divided by the accepted polynomial D, whose degree is 128 and which is
-// zero at H. Dividend and remainder differ by a multiple of D, so they have one value at H; the degree of the remainder is below 128, and
+// coefficient moved one place up. Its degree may be 128, so it is divided by the accepted polynomial χ, whose degree is 128 and which is
+// zero at H. Dividend and remainder differ by a multiple of χ, so they have one value at H; the degree of the remainder is below 128, and
 // it is the new W.
 //
-// D is t^128 and lower terms whose coefficients are zeros and ones. If c is the coefficient of t^128 in t·(W + P), which stood at the
-// highest place of W, then the quotient is the constant c, and the remainder is t·(W + P) + c·D: a block added to itself is zero, so
-// that takes away what it adds. At t^128 this leaves nothing, and below it c is added at the places of D's ones, and nowhere else. So
-// a block costs one sum more than D has ones below t^128, and no product.
+// χ is t^128 and lower terms whose coefficients are zeros and ones. If c is the coefficient of t^128 in t·(W + P), which stood at the
+// highest place of W, then the quotient is the constant c, and the remainder is t·(W + P) + c·χ: a block added to itself is zero, so
+// that adding is taking away. At t^128 it leaves nothing, and below that it adds c at the places of the ones of χ, and nowhere else. So
+// a block costs one sum more than χ has ones below t^128, and no product.
 //
 // The product of each step is what is saved. The value has its price when it is asked for: W at H is 128 products, whatever the number of
-// blocks. How W moves without moving a block, `ring` says.
+// blocks. How W moves without moving a block, `ring` says; docs/ENGINES.md has four steps by hand.
 ghost use Rattle.std.specs.Prelude.{◌≡◌, false};
 ghost use Rattle.engine.specs.Hashing.{NeverSwitches};
 ghost use Rattle.division.specs.Divisions.{IsFresh, DivisionAbsorbs, DivisionResumes, division_value};

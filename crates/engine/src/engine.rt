@@ -1,11 +1,11 @@
 // What every engine does: it hashes blocks under a subkey, and may hand its value over to another way of computing.
 //
 // Whoever writes an engine says in three functions what a user reads off it (`subkey_of`, `value_of`, `ready_of`), and in three
-// relations what a call makes of all of it (`absorbs`, `resumes`, `switches`). The functions alone would leave open how the value is
-// held, which decides what the engine computes with next; the relations leave nothing open. Each relates the whole value before the
-// call, what the call was handed or answered, and the whole value after: that of a step engine says which two blocks it holds, that
-// of a division engine which polynomial and where it begins, that of a pair what its running engine did, that the other engine is as
-// it was, and which of them runs. A user's contract chains them (`specs/Chain`), and so says all that an engine went through.
+// relations what a call makes of all of it (`absorbs`, `resumes`, `switches`). The functions alone leave open how an engine holds its
+// value, and so what it computes with next. A relation is between the whole engine before the call, what the call was handed or
+// answered, and the whole engine after. A step engine's relations say which two blocks it holds; a division engine's, which polynomial
+// it holds, and where in its ring that begins; a pair's, what the engine that runs did, that the other one is as it was, and which of
+// them runs afterwards. A user's contract chains them (`specs/Chain`), and so says all that an engine went through.
 ghost use Rattle.std.specs.Prelude.{◌≡◌, Bool, is_ok};
 ghost use Rattle.field.specs.declared.block.Block.{Block};
 ghost use Rattle.engine.specs.Hashing.{hash_step, switch_answer};
@@ -13,9 +13,9 @@ ghost use Rattle.engine.specs.Hashing.{hash_step, switch_answer};
 use field::Block;
 use refusal::Refusal;
 
-/// A hash of blocks, taken in one at a time: GHASH (NIST SP 800-38D, section 6.4), where the engine starts from a value of zero.
+/// A hash that takes in blocks one at a time: from a value of zero on, GHASH (NIST SP 800-38D, section 6.4).
 ///
-/// An engine holds a subkey H for as long as it lives, and a value T that each block moves on.
+/// An engine has a subkey H for as long as it lives, and a value T that each block moves on.
 pub trait Engine: Sized {
     /// H, the key of the hash. No call changes it.
     ghost subkey_of: { Self → Block };
@@ -64,8 +64,8 @@ pub trait Engine: Sized {
 
     /// Hands T over within the engine, to what has not run so far. T stays what it is, and so does all that is computed from it.
     ///
-    /// Refused as `NotReady` (6) exactly where the engine is not ready. What a refused switch leaves, `switches` says: of every engine
-    /// there is, all of it as it was.
+    /// Refused as `NotReady` (6) exactly where the engine is not ready. What a refused switch leaves, `switches` says; each engine of
+    /// this library is then as it was, all of it.
     fn switch(&mut self) -> Result<(), Refusal>
         ensures answer { result ≡ switch_answer (ready_of self.old) }
         ensures value { value_of self.new ≡ value_of self.old }

@@ -23,18 +23,18 @@ pub returns-clause-divided : goal.returns-clause-divided
 returns-clause-divided c =
     let ring : Ring = c.args.self.now in
     let divisor : Divisor = c.args.divisor.now in
-    let base : ℕ = (ring.base + 127) % 128 in
+    let back : ℕ = (ring.base + 127) % 128 in
     let bits : ℕ → Bool = coefficients_of divisor.polynomial.coefficients in
     let top : Block = c.index-self-base.result in
     let all : length ring.state ≡ 128 = search rules in
-    let cleared : List Block = set (set ring.state ring.base c.add.result) base c.zero.result in
-    let after : polynomial_of c.add_at.new.self ≡ sum_at_places block_ring top (one_places 128 bits) (rotation base cleared) =
+    let cleared : List Block = set (set ring.state ring.base c.add.result) back c.zero.result in
+    let after : polynomial_of c.add_at.new.self ≡ sum_at_places block_ring top (one_places 128 bits) (rotation back cleared) =
     c.add_at.ensures.added
-    ∙ ap₂ (λ (x : Block) (ps : List ℕ). sum_at_places block_ring x ps (rotation base cleared)) (sym c.index-self-base.is)
+    ∙ ap₂ (λ (x : Block) (ps : List ℕ). sum_at_places block_ring x ps (rotation back cleared)) (sym c.index-self-base.is)
     (c.as_slice.ensures.value ∙ divisor.ones) in
     let made : c.add.result ≡ block_ring.sum c.index-self-lowest.result c.args.block =
     c.add.ensures ∙ ap (λ (x : Block). block_ring.sum x c.args.block) (sym c.index-self-lowest.is) in
-    IsRemainder-step block_ring block_ring_laws block_even 127 ring.base base bits ring.state ring.inside (omega arith) all
+    IsRemainder-step block_ring block_ring_laws block_even 127 ring.base back bits ring.state ring.inside (omega arith) all
     (stands ring.base 127 ring.inside (omega arith))
     c.args.block c.index-self-lowest.result c.add.result top c.zero.result (polynomial_of c.add_at.new.self)
     c.index-self-lowest.is made c.index-self-base.is c.zero.ensures after
