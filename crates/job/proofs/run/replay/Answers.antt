@@ -3,7 +3,7 @@ use Rattle.message.specs.Blocks.{blocks}
 use Rattle.message.specs.Limits.{body_limit, limit_of}
 use Rattle.message.specs.declared.part.Part.{Part}
 use Rattle.message.specs.declared.part.Part.TheVariants.{Header, Body}
-use Rattle.job.specs.Plain.{Answer, part_answers, bytes_taken}
+use Rattle.job.specs.Plain.{part_answers, bytes_taken}
 use Rattle.job.specs.declared.call.Call.{Call}
 use Rattle.job.proofs.Answering.{from_beginning}
 use Rattle.job.proofs.Ordering.{in_order}

@@ -1,6 +1,6 @@
 use Rattle.std.proofs.Common.{◌≡◌, Bool, ℕ, List, [], ◌∷◌, sym, ap, ◌∙◌, subst}
 use Rattle.field.specs.declared.block.Block.{Block}
-use Rattle.message.specs.Answer.{digest_of, digest_under}
+use Rattle.message.specs.Answer.{digest_under}
 use Rattle.message.specs.Blocks.{blocks, block_of_counts}
 use Rattle.message.specs.Hash.{hash_of}
 use Rattle.message.specs.Standard.{MeetsStandard}
