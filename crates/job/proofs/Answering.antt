@@ -28,11 +28,14 @@ no_new_blocks taken =
     ap (λ bytes. drop (length (full_blocks taken)) (full_blocks bytes)) (append-nil taken)
     ∙ drop_all (length (full_blocks taken)) (full_blocks taken) (omega arith)
 
-length_answers : (part : Part) (can_switch : Bool) (taken : List ℕ) (cs : List Call) → length (answers_to part can_switch taken cs) ≡ length cs
+length_answers : (part : Part) (can_switch : Bool) (taken : List ℕ) (cs : List Call)
+    → length (answers_to part can_switch taken cs) ≡ length cs
 length_answers part can_switch taken [] = refl
-length_answers part can_switch taken (c ∷ cs) = ap suc (length_answers part can_switch (taken ++ call_bytes c (answer_to part can_switch taken c)) cs)
+length_answers part can_switch taken (c ∷ cs) =
+    ap suc (length_answers part can_switch (taken ++ call_bytes c (answer_to part can_switch taken c)) cs)
 
-pub accepted_append : (cs ds : List Call) (xs ys : List Answer) → length xs ≡ length cs → accepted_bytes (cs ++ ds) (xs ++ ys) ≡ accepted_bytes cs xs ++ accepted_bytes ds ys
+pub accepted_append : (cs ds : List Call) (xs ys : List Answer) → length xs ≡ length cs
+    → accepted_bytes (cs ++ ds) (xs ++ ys) ≡ accepted_bytes cs xs ++ accepted_bytes ds ys
 accepted_append [] ds [] ys same = refl
 accepted_append [] ds (x ∷ xs) ys same = absurd (omega arith)
 accepted_append (c ∷ cs) ds [] ys same = absurd (omega arith)
@@ -49,11 +52,15 @@ operations_append taken (c ∷ cs) ds (x ∷ xs) ys same =
     let after : List ℕ = taken ++ call_bytes c x in
     ap (λ os. operations_for taken c x ++ os)
     (operations_append after cs ds xs ys (omega arith)
-    ∙ ap (λ bytes. operations_of after cs xs ++ operations_of bytes ds ys) (append_assoc taken (call_bytes c x) (accepted_bytes cs xs)))
-    ∙ sym (append_assoc (operations_for taken c x) (operations_of after cs xs) (operations_of (taken ++ (call_bytes c x ++ accepted_bytes cs xs)) ds ys))
+    ∙ ap (λ bytes. operations_of after cs xs ++ operations_of bytes ds ys)
+    (append_assoc taken (call_bytes c x) (accepted_bytes cs xs)))
+    ∙ sym (append_assoc (operations_for taken c x) (operations_of after cs xs)
+    (operations_of (taken ++ (call_bytes c x ++ accepted_bytes cs xs)) ds ys))
 
 answers_append : (part : Part) (can_switch : Bool) (taken : List ℕ) (cs ds : List Call)
-    → answers_to part can_switch taken (cs ++ ds) ≡ answers_to part can_switch taken cs ++ answers_to part can_switch (taken ++ accepted_bytes cs (answers_to part can_switch taken cs)) ds
+    → answers_to part can_switch taken (cs ++ ds)
+    ≡ answers_to part can_switch taken cs
+    ++ answers_to part can_switch (taken ++ accepted_bytes cs (answers_to part can_switch taken cs)) ds
 answers_append part can_switch taken [] ds = ap (λ bytes. answers_to part can_switch bytes ds) (sym (append-nil taken))
 answers_append part can_switch taken (c ∷ cs) ds =
     let a : Answer = answer_to part can_switch taken c in
@@ -64,7 +71,8 @@ answers_append part can_switch taken (c ∷ cs) ds =
     (append_assoc taken (call_bytes c a) (accepted_bytes cs (answers_to part can_switch after cs))))
 
 module _ {E : Type 0} (m : Ghosts E) (h : Block) (can_switch : Bool) (before : List Block) where
-  pub answered_none : (f : BlockBuffer E) (taken : List ℕ) (xs : List Answer) → xs ≡ [] → Holds m h can_switch before f taken → AnswersFrom m h can_switch before f taken [] xs f
+  pub answered_none : (f : BlockBuffer E) (taken : List ℕ) (xs : List Answer) → xs ≡ []
+      → Holds m h can_switch before f taken → AnswersFrom m h can_switch before f taken [] xs f
   answered_none f taken xs none held = record {
     said = none;
     holds = subst (λ (bytes : List ℕ). Holds m h can_switch before f bytes) (sym (append-nil taken)) held;
@@ -72,12 +80,14 @@ module _ {E : Type 0} (m : Ghosts E) (h : Block) (can_switch : Bool) (before : L
   }
 
   pub answered_append : (f g t : BlockBuffer E) (taken : List ℕ) (cs ds : List Call) (xs ys : List Answer)
-      → AnswersFrom m h can_switch before f taken cs xs g → AnswersFrom m h can_switch before g (taken ++ accepted_bytes cs xs) ds ys t → g.part ≡ f.part
+      → AnswersFrom m h can_switch before f taken cs xs g
+      → AnswersFrom m h can_switch before g (taken ++ accepted_bytes cs xs) ds ys t → g.part ≡ f.part
       → AnswersFrom m h can_switch before f taken (cs ++ ds) (xs ++ ys) t
   answered_append f g t taken cs ds xs ys a b kept =
       let part : Part = f.part in
       let same : length xs ≡ length cs = ap length a.said ∙ length_answers part can_switch taken cs in
-      let said : ys ≡ answers_to part can_switch (taken ++ accepted_bytes cs xs) ds = b.said ∙ ap (λ p. answers_to p can_switch (taken ++ accepted_bytes cs xs) ds) kept in
+      let said : ys ≡ answers_to part can_switch (taken ++ accepted_bytes cs xs) ds =
+      b.said ∙ ap (λ p. answers_to p can_switch (taken ++ accepted_bytes cs xs) ds) kept in
       record {
         said =
             ap₂ (λ us vs. us ++ vs) a.said
@@ -85,10 +95,12 @@ module _ {E : Type 0} (m : Ghosts E) (h : Block) (can_switch : Bool) (before : L
             ∙ sym (answers_append part can_switch taken cs ds);
         holds =
             subst (λ (bytes : List ℕ). Holds m h can_switch before t bytes)
-            (append_assoc taken (accepted_bytes cs xs) (accepted_bytes ds ys) ∙ ap (λ bytes. taken ++ bytes) (sym (accepted_append cs ds xs ys same))) b.holds;
+            (append_assoc taken (accepted_bytes cs xs) (accepted_bytes ds ys)
+            ∙ ap (λ bytes. taken ++ bytes) (sym (accepted_append cs ds xs ys same))) b.holds;
         chain =
             subst (λ (os : List Operation). Chain m os f.engine t.engine) (sym (operations_append taken cs ds xs ys same))
-            (chain_append m (operations_of taken cs xs) (operations_of (taken ++ accepted_bytes cs xs) ds ys) f.engine g.engine t.engine a.chain b.chain);
+            (chain_append m (operations_of taken cs xs) (operations_of (taken ++ accepted_bytes cs xs) ds ys)
+            f.engine g.engine t.engine a.chain b.chain);
       }
 
 -- ---- one call
@@ -122,10 +134,13 @@ module _ {E : Type 0} (m : Ghosts E) (f t : BlockBuffer E) where
       record {
         said = ap (λ x. x ∷ []) said.0;
         holds = subst (λ (bytes : List ℕ). Holds m h can_switch before t bytes) brought said.1;
-        chain = subst (λ (os : List Operation). Chain m os f.engine t.engine) (sym (append-nil (operations_for taken call a))) (went taken held.left);
+        chain =
+            subst (λ (os : List Operation). Chain m os f.engine t.engine)
+            (sym (append-nil (operations_for taken call a))) (went taken held.left);
       }
 
-  fed_operations : (piece taken : List ℕ) (a : Answer) → MatchResult a (λ _. TakesPiece m f piece t) (λ _. t ≡ f) → pending_bytes f ≡ left_over taken
+  fed_operations : (piece taken : List ℕ) (a : Answer) → MatchResult a (λ _. TakesPiece m f piece t) (λ _. t ≡ f)
+      → pending_bytes f ≡ left_over taken
       → Chain m (map absorb (new_blocks taken (if is_ok a then piece else []))) f.engine t.engine
   fed_operations piece taken (Ok x) fed left =
       subst (λ (ps : List Block). Chain m (map absorb ps) f.engine t.engine)
@@ -135,7 +150,8 @@ module _ {E : Type 0} (m : Ghosts E) (f t : BlockBuffer E) where
 
   pub answers_feed : (piece : Bor (List ℕ)) (a : Answer) → Feeds m f piece.now a t → BufferFollows m f (Feed piece) a t
       → AnswersCalls m f (Feed piece ∷ []) (a ∷ []) t
-  answers_feed piece a fed follows = answers_one (Feed piece) a follows (λ taken left. fed_operations piece.now taken a fed.outcome left)
+  answers_feed piece a fed follows =
+      answers_one (Feed piece) a follows (λ taken left. fed_operations piece.now taken a fed.outcome left)
 
   pub answers_switch : (a : Answer) → Switches m f a t → BufferFollows m f Switch a t → AnswersCalls m f (Switch ∷ []) (a ∷ []) t
   answers_switch a switched follows = answers_one Switch a follows (λ taken left. (t.engine, switched.engine, refl))
@@ -159,8 +175,10 @@ module _ {E : Type 0} (m : Ghosts E) (f : BlockBuffer E) (row : List Answer) whe
     answered = λ h can_switch before taken held. answered_none m h can_switch before f taken [] refl held;
   }
 
-  pub all_more : (g t : BlockBuffer E) (cs : List Call) (c : Call) (middle after : List Answer) (a : Answer) (n : ℕ) → AnswersIntoRow m f cs row g middle
-      → g.part ≡ f.part → length cs ≡ n → after ≡ set middle n a → AnswersCalls m g (c ∷ []) (a ∷ []) t → AnswersIntoRow m f (cs ++ (c ∷ [])) row t after
+  pub all_more : (g t : BlockBuffer E) (cs : List Call) (c : Call) (middle after : List Answer) (a : Answer) (n : ℕ)
+      → AnswersIntoRow m f cs row g middle
+      → g.part ≡ f.part → length cs ≡ n → after ≡ set middle n a → AnswersCalls m g (c ∷ []) (a ∷ []) t
+      → AnswersIntoRow m f (cs ++ (c ∷ [])) row t after
   all_more g t cs c middle after a n so_far kept place wrote one = record {
     answers = so_far.answers ++ (a ∷ []);
     count = length-append so_far.answers (a ∷ []) ∙ ap (λ k. k + 1) so_far.count ∙ sym (length-append cs (c ∷ []));
@@ -172,10 +190,14 @@ module _ {E : Type 0} (m : Ghosts E) (f : BlockBuffer E) (row : List Answer) whe
   }
 
   -- a part's calls from its beginning, in the words of the plain job
-  pub from_beginning : (h : Block) (can_switch : Bool) (before : List Block) (part : Part) (t : BlockBuffer E) (calls : List Call) (after : List Answer)
+  pub from_beginning : (h : Block) (can_switch : Bool) (before : List Block) (part : Part) (t : BlockBuffer E)
+      → (calls : List Call) (after : List Answer)
       → f.part ≡ part → AnswersIntoRow m f calls row t after → Holds m h can_switch before f []
-      → (after ≡ row_after row (part_answers part can_switch calls)) × AnswersFrom m h can_switch before f [] calls (part_answers part can_switch calls) t
+      → (after ≡ row_after row (part_answers part can_switch calls))
+      × AnswersFrom m h can_switch before f [] calls (part_answers part can_switch calls) t
   from_beginning h can_switch before part t calls after kept all held =
       let said = all.answered h can_switch before [] held in
-      let plain : all.answers ≡ part_answers part can_switch calls = said.said ∙ ap (λ p. answers_to p can_switch [] calls) kept in
-      (all.written ∙ ap (row_after row) plain, subst (λ (xs : List Answer). AnswersFrom m h can_switch before f [] calls xs t) plain said)
+      let plain : all.answers ≡ part_answers part can_switch calls = said.said ∙ ap (λ p. answers_to p can_switch [] calls) kept in (
+        all.written ∙ ap (row_after row) plain,
+        subst (λ (xs : List Answer). AnswersFrom m h can_switch before f [] calls xs t) plain said,
+      )

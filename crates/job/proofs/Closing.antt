@@ -17,7 +17,8 @@ use Rattle.job.proofs.Feeding.{flushed_value}
 
 module _ {E : Type 0} (m : Ghosts E) (j : BodyJob E) (t : BlockBuffer E) (e : E) (flushed : Flushes m j.buffer t)
     (last : HashesBlocks m t.engine (block_of_counts j.header j.buffer.count ∷ []) e) where
-  pub closed_value : (h : Block) (can_switch : Bool) (header body : List ℕ) → BodyHolds m h can_switch j header body → m.value_of e ≡ hash_of h header body
+  pub closed_value : (h : Block) (can_switch : Bool) (header body : List ℕ) → BodyHolds m h can_switch j header body
+      → m.value_of e ≡ hash_of h header body
   unfolding hash_of
   closed_value h can_switch header body held =
       let lengths : block_of_counts j.header j.buffer.count ≡ block_of_lengths header body =

@@ -19,7 +19,8 @@ first_blocks_split (suc n) k xs =
     let further : 16 + 16 * n ≡ 16 * suc n = omega arith in
     let d : drop (16 * n) (drop 16 xs) ≡ drop (16 * suc n) xs = drop-drop (16 * n) 16 xs ∙ ap (λ j. drop j xs) further in
     ap (λ j. first_blocks j xs) e
-    ∙ ap (λ r. block_from (take 16 xs) ∷ r) (first_blocks_split n k (drop 16 xs) ∙ ap (λ r. first_blocks n (drop 16 xs) ++ first_blocks k r) d)
+    ∙ ap (λ r. block_from (take 16 xs) ∷ r)
+    (first_blocks_split n k (drop 16 xs) ∙ ap (λ r. first_blocks n (drop 16 xs) ++ first_blocks k r) d)
 
 module _ (xs ys : List ℕ) where
   whole_count : length (xs ++ ys) / 16 ≡ length xs / 16 + length (left_over xs ++ ys) / 16

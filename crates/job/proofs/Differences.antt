@@ -17,11 +17,13 @@ use Rattle.job.specs.Runs.{taken_header, taken_body, Replays}
 use Rattle.job.specs.declared.call.Calls.{Calls}
 use Rattle.job.specs.declared.closed.Closed.{Closed}
 
-four : (a b c d : Block) → block_ring.sum (block_ring.sum a b) (block_ring.sum c d) ≡ block_ring.sum (block_ring.sum a c) (block_ring.sum b d)
+four : (a b c d : Block)
+    → block_ring.sum (block_ring.sum a b) (block_ring.sum c d) ≡ block_ring.sum (block_ring.sum a c) (block_ring.sum b d)
 four a b c d =
     block_ring_laws.sum_assoc a b (block_ring.sum c d)
     ∙ ap (block_ring.sum a)
-    (sym (block_ring_laws.sum_assoc b c d) ∙ ap (λ x. block_ring.sum x d) (block_ring_laws.sum_comm b c) ∙ block_ring_laws.sum_assoc c b d)
+    (sym (block_ring_laws.sum_assoc b c d) ∙ ap (λ x. block_ring.sum x d) (block_ring_laws.sum_comm b c)
+    ∙ block_ring_laws.sum_assoc c b d)
     ∙ sym (block_ring_laws.sum_assoc a c (block_ring.sum b d))
 
 length_xor_list : (ps qs : List Block) → length ps ≡ length qs → length (xor_list ps qs) ≡ length ps
@@ -38,12 +40,15 @@ eval_xor_list h (p ∷ ps) (q ∷ qs) same =
     let one_less : length ps ≡ length qs = omega arith in
     let w : Block = power block_ring h (suc (length ps)) in
     ap₂ block_ring.sum
-    (ap (λ n. block_ring.product (block_ring.sum p q) (power block_ring h (suc n))) (length_xor_list ps qs one_less) ∙ sum_product block_ring block_ring_laws p q w)
+    (ap (λ n. block_ring.product (block_ring.sum p q) (power block_ring h (suc n))) (length_xor_list ps qs one_less)
+    ∙ sum_product block_ring block_ring_laws p q w)
     (eval_xor_list h ps qs one_less)
     ∙ four (block_ring.product p w) (block_ring.product q w) (eval block_ring h ps) (eval block_ring h qs)
-    ∙ ap (λ n. block_ring.sum (eval block_ring h (p ∷ ps)) (block_ring.sum (block_ring.product q (power block_ring h (suc n))) (eval block_ring h qs))) one_less
+    ∙ ap (λ n. block_ring.sum (eval block_ring h (p ∷ ps))
+    (block_ring.sum (block_ring.product q (power block_ring h (suc n))) (eval block_ring h qs))) one_less
 
-block_count_same : (header body : List ℕ) → length (block_list header body) ≡ blocks_taken (length header) + (blocks_taken (length body) + 1)
+block_count_same : (header body : List ℕ)
+    → length (block_list header body) ≡ blocks_taken (length header) + (blocks_taken (length body) + 1)
 block_count_same header body =
     length-append (blocks header) (blocks body ++ (block_of_lengths header body ∷ []))
     ∙ ap₂ (λ m n. m + n) (length_blocks header)
@@ -55,7 +60,8 @@ unfolding hash_of difference_of
 hashes_differ h header body header' body' same =
     sym
     (eval_xor_list h (block_list header body) (block_list header' body')
-    (block_count_same header body ∙ ap₂ (λ m n. blocks_taken m + (blocks_taken n + 1)) same.headers same.bodies ∙ sym (block_count_same header' body')))
+    (block_count_same header body ∙ ap₂ (λ m n. blocks_taken m + (blocks_taken n + 1)) same.headers same.bodies
+    ∙ sym (block_count_same header' body')))
 
 -- what is said of two closed jobs, of the runs that they end
 module _ {A B : Type 0} (a : Ghosts A) (b : Ghosts B) (first : A) (first_calls : Calls) (second : B) (second_calls : Calls)
@@ -63,13 +69,15 @@ module _ {A B : Type 0} (a : Ghosts A) (b : Ghosts B) (first : A) (first_calls :
     (ran : Replays a first first_calls pad one) (ran' : Replays b second second_calls pad two) where
   pub runs_sum : xor ≡ block_ring.sum one.digest.hash two.digest.hash
       → xor ≡ xor_of_runs a b first first_calls second second_calls
-  runs_sum said = said ∙ ap₂ block_ring.sum (ap (λ (d : Digest). d.hash) ran.closes.digest) (ap (λ (d : Digest). d.hash) ran'.closes.digest)
+  runs_sum said =
+      said ∙ ap₂ block_ring.sum (ap (λ (d : Digest). d.hash) ran.closes.digest) (ap (λ (d : Digest). d.hash) ran'.closes.digest)
 
   pub runs_differ : XorIsEvaluation a b one two xor → RunsXorIsEvaluation a b first first_calls second second_calls xor
   runs_differ law alike =
       let header' : List ℕ = taken_header b second second_calls in
       let body' : List ℕ = taken_body b second second_calls in
       let can_switch' : Bool = b.ready_of second in
-      law (a.subkey_of first) (a.ready_of first) can_switch' pad pad (taken_header a first first_calls) (taken_body a first first_calls) header' body' ran.closes
+      law (a.subkey_of first) (a.ready_of first) can_switch' pad pad
+      (taken_header a first first_calls) (taken_body a first first_calls) header' body' ran.closes
       (subst (λ (k : Block). Closes b k can_switch' pad two header' body') (sym alike.subkey) ran'.closes)
       alike.lengths

@@ -28,7 +28,8 @@ module _ {E : Type 0} (m : Ghosts E) where
     cut_append = record {
       hashed =
           subst (λ (ps : List Block). HashesBlocks m f.engine ps h.engine) (sym both)
-          (hashed_append m f.engine g.engine h.engine (full_blocks (pending_bytes f ++ xs)) (full_blocks (pending_bytes g ++ ys)) a.hashed b.hashed);
+          (hashed_append m f.engine g.engine h.engine
+          (full_blocks (pending_bytes f ++ xs)) (full_blocks (pending_bytes g ++ ys)) a.hashed b.hashed);
       left =
           b.left ∙ ap (λ w. left_over (w ++ ys)) a.left ∙ sym (left_append (pending_bytes f ++ xs) ys)
           ∙ ap left_over (append_assoc (pending_bytes f) xs ys);
@@ -49,7 +50,8 @@ module _ {E : Type 0} (m : Ghosts E) where
       }
 
   -- the count was raised before
-  pub takes_by : (f s t : BlockBuffer E) (xs piece : List ℕ) → CutsIntoBlocks m s xs t → xs ≡ piece → s.engine ≡ f.engine → pending_bytes s ≡ pending_bytes f
+  pub takes_by : (f s t : BlockBuffer E) (xs piece : List ℕ) → CutsIntoBlocks m s xs t → xs ≡ piece
+      → s.engine ≡ f.engine → pending_bytes s ≡ pending_bytes f
       → s.count ≡ f.count + length piece → s.part ≡ f.part → TakesPiece m f piece t
   takes_by f s t xs piece cut all engine pending count part =
       let bytes : pending_bytes s ++ xs ≡ pending_bytes f ++ piece = ap₂ (λ us vs. us ++ vs) pending all in
@@ -62,7 +64,8 @@ module _ {E : Type 0} (m : Ghosts E) where
         part = cut.part ∙ part;
       }
 
-  module _ (h : Block) (can_switch : Bool) (before : List Block) (f t : BlockBuffer E) (taken : List ℕ) (held : Holds m h can_switch before f taken) where
+  module _ (h : Block) (can_switch : Bool) (before : List Block) (f t : BlockBuffer E) (taken : List ℕ)
+      (held : Holds m h can_switch before f taken) where
     pub holds_append : (piece : List ℕ) → AreBytes piece → TakesPiece m f piece t → Holds m h can_switch before t (taken ++ piece)
     holds_append piece small fed = record {
       subkey = fed.hashed.subkey ∙ held.subkey;
@@ -70,7 +73,8 @@ module _ {E : Type 0} (m : Ghosts E) where
       count = simp length-append (omega (arith, held.count, fed.count));
       left = fed.left ∙ ap (λ w. left_over (w ++ piece)) held.left ∙ sym (left_append taken piece);
       value =
-          hashed_eval m h f.engine t.engine (before ++ full_blocks taken) (full_blocks (pending_bytes f ++ piece)) fed.hashed held.subkey held.value
+          hashed_eval m h f.engine t.engine (before ++ full_blocks taken)
+          (full_blocks (pending_bytes f ++ piece)) fed.hashed held.subkey held.value
           ∙ ap (eval block_ring h)
           (append_assoc before (full_blocks taken) (full_blocks (pending_bytes f ++ piece))
           ∙ ap (λ ps. before ++ ps)
@@ -81,7 +85,8 @@ module _ {E : Type 0} (m : Ghosts E) where
     -- the part is at its end
     pub flushed_value : Flushes m f t → m.value_of t.engine ≡ eval block_ring h (before ++ blocks taken)
     flushed_value flushed =
-        hashed_eval m h f.engine t.engine (before ++ full_blocks taken) (blocks (pending_bytes f)) flushed.hashed held.subkey held.value
+        hashed_eval m h f.engine t.engine (before ++ full_blocks taken)
+        (blocks (pending_bytes f)) flushed.hashed held.subkey held.value
         ∙ ap (eval block_ring h)
         (append_assoc before (full_blocks taken) (blocks (pending_bytes f))
         ∙ ap (λ ps. before ++ ps)

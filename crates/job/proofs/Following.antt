@@ -16,7 +16,8 @@ use Rattle.job.specs.declared.header_job.HeaderJob.{HeaderJob}
 
 module _ {E : Type 0} (m : Ghosts E) where
   -- A feed of the buffer is one of the state, which stays where the buffer does.
-  pub feeds_part : {S : Type 0} (buffer_of : S → BlockBuffer E) (part : Part) (j t : S) (piece : List ℕ) (a : Answer) → (buffer_of j).part ≡ part
+  pub feeds_part : {S : Type 0} (buffer_of : S → BlockBuffer E) (part : Part) (j t : S) (piece : List ℕ) (a : Answer)
+      → (buffer_of j).part ≡ part
       → (buffer_of t ≡ buffer_of j → t ≡ j) → Feeds m (buffer_of j) piece a (buffer_of t) → FeedsPart m buffer_of part j piece a t
   feeds_part buffer_of part j t piece a taking same fed = record {
     answer = fed.answer ∙ ap (λ p. answer_after p (buffer_of j).count piece) taking;

@@ -44,7 +44,9 @@ full_final taken = ap (λ ps. full_blocks taken ++ ps) (last_left taken) ∙ sym
 
 -- the full blocks of both parts, each with its last, and the length block
 all_blocks : (header body : List ℕ)
-    → full_blocks header ++ (final_block header ++ (full_blocks body ++ (final_block body ++ (block_of_lengths header body ∷ [])))) ≡ block_list header body
+    → full_blocks header
+    ++ (final_block header ++ (full_blocks body ++ (final_block body ++ (block_of_lengths header body ∷ []))))
+    ≡ block_list header body
 all_blocks header body =
     let lengths : List Block = block_of_lengths header body ∷ [] in
     sym (append_assoc (full_blocks header) (final_block header) (full_blocks body ++ (final_block body ++ lengths)))
@@ -53,11 +55,13 @@ all_blocks header body =
 
 -- a job that only feeds absorbs the block list
 pub fed_operations : (header body : List ℕ)
-    → job_operations (map absorb (full_blocks header)) header (map absorb (full_blocks body)) body ≡ resume block_ring.zero ∷ map absorb (block_list header body)
+    → job_operations (map absorb (full_blocks header)) header (map absorb (full_blocks body)) body
+    ≡ resume block_ring.zero ∷ map absorb (block_list header body)
 fed_operations header body =
     let ends : List Block = final_block body ++ (block_of_lengths header body ∷ []) in
     ap (λ os. resume block_ring.zero ∷ os)
-    (ap (λ os. map absorb (full_blocks header) ++ (map absorb (final_block header) ++ os)) (sym (map-append absorb (full_blocks body) ends))
+    (ap (λ os. map absorb (full_blocks header) ++ (map absorb (final_block header) ++ os))
+    (sym (map-append absorb (full_blocks body) ends))
     ∙ ap (λ os. map absorb (full_blocks header) ++ os) (sym (map-append absorb (final_block header) (full_blocks body ++ ends)))
     ∙ sym (map-append absorb (full_blocks header) (final_block header ++ (full_blocks body ++ ends)))
     ∙ ap (map absorb) (all_blocks header body))
@@ -69,15 +73,18 @@ absorbs_of [] = refl
 absorbs_of (p ∷ ps) = ap (λ xs. p ∷ xs) (absorbs_of ps)
 
 -- absorbs give nothing but their blocks
-none_of : {X : Type 0} (f : Operation → List X) → ((p : Block) → f (absorb p) ≡ []) → (ps : List Block) → flat_map f (map absorb ps) ≡ []
+none_of : {X : Type 0} (f : Operation → List X) → ((p : Block) → f (absorb p) ≡ []) → (ps : List Block)
+    → flat_map f (map absorb ps) ≡ []
 none_of f none [] = refl
 none_of f none (p ∷ ps) = ap (λ xs. xs ++ flat_map f (map absorb ps)) (none p) ∙ none_of f none ps
 
-absorbs_for : (taken : List ℕ) (c : Call) (a : Answer) → flat_map absorb_of (operations_for taken c a) ≡ new_blocks taken (call_bytes c a)
+absorbs_for : (taken : List ℕ) (c : Call) (a : Answer)
+    → flat_map absorb_of (operations_for taken c a) ≡ new_blocks taken (call_bytes c a)
 absorbs_for taken (Feed piece) a = absorbs_of (new_blocks taken (call_bytes (Feed piece) a))
 absorbs_for taken Switch a = sym (no_new_blocks taken)
 
-absorbs_in : (taken : List ℕ) (cs : List Call) (xs : List Answer) → flat_map absorb_of (operations_of taken cs xs) ≡ new_blocks taken (accepted_bytes cs xs)
+absorbs_in : (taken : List ℕ) (cs : List Call) (xs : List Answer)
+    → flat_map absorb_of (operations_of taken cs xs) ≡ new_blocks taken (accepted_bytes cs xs)
 absorbs_in taken [] xs = sym (no_new_blocks taken)
 absorbs_in taken (c ∷ cs) [] = sym (no_new_blocks taken)
 absorbs_in taken (c ∷ cs) (x ∷ xs) =
@@ -85,12 +92,14 @@ absorbs_in taken (c ∷ cs) (x ∷ xs) =
     ∙ ap₂ (λ ps qs. ps ++ qs) (absorbs_for taken c x) (absorbs_in (taken ++ call_bytes c x) cs xs)
     ∙ sym (new_append taken (call_bytes c x) (accepted_bytes cs xs))
 
-switches_in : (taken : List ℕ) (cs : List Call) (xs : List Answer) → flat_map switch_of (operations_of taken cs xs) ≡ switch_answers cs xs
+switches_in : (taken : List ℕ) (cs : List Call) (xs : List Answer)
+    → flat_map switch_of (operations_of taken cs xs) ≡ switch_answers cs xs
 switches_in taken [] xs = refl
 switches_in taken (c ∷ cs) [] = refl
 switches_in taken (Feed piece ∷ cs) (x ∷ xs) =
     flat_map-append switch_of (operations_for taken (Feed piece) x) (operations_of (taken ++ call_bytes (Feed piece) x) cs xs)
-    ∙ ap₂ (λ ps qs. ps ++ qs) (none_of switch_of (λ p. refl) (new_blocks taken (call_bytes (Feed piece) x))) (switches_in (taken ++ call_bytes (Feed piece) x) cs xs)
+    ∙ ap₂ (λ ps qs. ps ++ qs) (none_of switch_of (λ p. refl) (new_blocks taken (call_bytes (Feed piece) x)))
+    (switches_in (taken ++ call_bytes (Feed piece) x) cs xs)
 switches_in taken (Switch ∷ cs) (x ∷ xs) = ap (λ bs. is_ok x ∷ bs) (switches_in (taken ++ []) cs xs)
 
 resumes_in : (taken : List ℕ) (cs : List Call) (xs : List Answer) → flat_map resume_of (operations_of taken cs xs) ≡ []
@@ -98,7 +107,8 @@ resumes_in taken [] xs = refl
 resumes_in taken (c ∷ cs) [] = refl
 resumes_in taken (Feed piece ∷ cs) (x ∷ xs) =
     flat_map-append resume_of (operations_for taken (Feed piece) x) (operations_of (taken ++ call_bytes (Feed piece) x) cs xs)
-    ∙ ap₂ (λ ps qs. ps ++ qs) (none_of resume_of (λ p. refl) (new_blocks taken (call_bytes (Feed piece) x))) (resumes_in (taken ++ call_bytes (Feed piece) x) cs xs)
+    ∙ ap₂ (λ ps qs. ps ++ qs) (none_of resume_of (λ p. refl) (new_blocks taken (call_bytes (Feed piece) x)))
+    (resumes_in (taken ++ call_bytes (Feed piece) x) cs xs)
 resumes_in taken (Switch ∷ cs) (x ∷ xs) = resumes_in (taken ++ []) cs xs
 
 -- ---- the whole job
@@ -118,7 +128,8 @@ in_order hs xs bs ys =
     record {
       resumes =
           ap (λ vs. block_ring.zero ∷ vs)
-          (four_parts resume_of (operations_of [] hs xs) (map absorb (final_block header)) (operations_of [] bs ys) (map absorb ends)
+          (four_parts resume_of
+          (operations_of [] hs xs) (map absorb (final_block header)) (operations_of [] bs ys) (map absorb ends)
           ∙ ap₂ (λ us vs. us ++ vs) (resumes_in [] hs xs)
           (ap₂ (λ us vs. us ++ vs) (none_of resume_of (λ p. refl) (final_block header))
           (ap₂ (λ us vs. us ++ vs) (resumes_in [] bs ys) (none_of resume_of (λ p. refl) ends))));
@@ -132,5 +143,6 @@ in_order hs xs bs ys =
           four_parts switch_of (operations_of [] hs xs) (map absorb (final_block header)) (operations_of [] bs ys) (map absorb ends)
           ∙ ap₂ (λ us vs. us ++ vs) (switches_in [] hs xs)
           (ap₂ (λ us vs. us ++ vs) (none_of switch_of (λ p. refl) (final_block header))
-          (ap₂ (λ us vs. us ++ vs) (switches_in [] bs ys) (none_of switch_of (λ p. refl) ends) ∙ append-nil (switch_answers bs ys)));
+          (ap₂ (λ us vs. us ++ vs) (switches_in [] bs ys) (none_of switch_of (λ p. refl) ends)
+          ∙ append-nil (switch_answers bs ys)));
     }

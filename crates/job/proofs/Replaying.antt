@@ -1,5 +1,5 @@
 -- A whole job, from the start to the close: what the engine went through.
-use Rattle.std.proofs.Common.{◌≡◌, ℕ, Bool, List, [], ◌∷◌, ◌++◌, map, length, sym, ap, ◌∙◌, subst, ap₂}
+use Rattle.std.proofs.Common.{◌≡◌, ℕ, Bool, List, [], ◌∷◌, ◌++◌, map, sym, ap, ◌∙◌, subst, ap₂}
 use Rattle.field.specs.Kinds.{block_ring}
 use Rattle.field.specs.declared.block.Block.{Block}
 use Rattle.message.specs.Blocks.{blocks, block_of_lengths, block_of_counts, block_list}
@@ -39,11 +39,13 @@ module _ {E : Type 0} (m : Ghosts E) (h : Block) (can_switch : Bool) (engine : E
 
   -- What the engine went through within each part, joined with what it went through at the start, the turn and the close.
   pub job_chain : (of_header of_body : List Operation) → Chain m of_header i.buffer.engine j.buffer.engine
-      → Chain m of_body b.buffer.engine t.buffer.engine → Chain m (job_operations of_header header of_body body) engine closed.engine
+      → Chain m of_body b.buffer.engine t.buffer.engine
+      → Chain m (job_operations of_header header of_body body) engine closed.engine
   job_chain of_header of_body through_header through_body =
       let last : List Block = final_block body ++ (block_of_lengths header body ∷ []) in
       let turn : Chain m (map absorb (final_block header)) j.buffer.engine b.buffer.engine =
-      subst (λ (ps : List Block). Chain m (map absorb ps) j.buffer.engine b.buffer.engine) (waits j.buffer header first.left) turned.hashed.chain in
+      subst (λ (ps : List Block). Chain m (map absorb ps) j.buffer.engine b.buffer.engine)
+      (waits j.buffer header first.left) turned.hashed.chain in
       let lengths : block_of_counts t.header t.buffer.count ≡ block_of_lengths header body =
       ap₂ block_of_counts second.before second.holds.count ∙ sym (lengths_counts header body) in
       let close : Chain m (map absorb last) t.buffer.engine closed.engine =
@@ -57,7 +59,8 @@ module _ {E : Type 0} (m : Ghosts E) (h : Block) (can_switch : Bool) (engine : E
       )
 
   -- Where both parts were only fed, the engine went on from zero and absorbed the block list.
-  pub fed_job_chain : HashesBlocks m i.buffer.engine (full_blocks header) j.buffer.engine → HashesBlocks m b.buffer.engine (full_blocks body) t.buffer.engine
+  pub fed_job_chain : HashesBlocks m i.buffer.engine (full_blocks header) j.buffer.engine
+      → HashesBlocks m b.buffer.engine (full_blocks body) t.buffer.engine
       → Chain m (resume block_ring.zero ∷ map absorb (block_list header body)) engine closed.engine
   fed_job_chain fed_header fed_body =
       subst (λ (os : List Operation). Chain m os engine closed.engine) (fed_operations header body)

@@ -18,9 +18,10 @@ abbrev pub pending_bytes : {E : Type 0} → BlockBuffer E → List ℕ
 pending_bytes b = b.pending.items
 
 module _ {E : Type 0} (m : Ghosts E) where
-  -- The engine came with this subkey and this ready, and after the blocks before it the part has taken these bytes: T is the evaluation
-  -- of the blocks already full, and the bytes after them wait.
-  pub record Holds (h : Block) (can_switch : Bool) (before : List Block) (b : BlockBuffer E) (taken : List ℕ) : Type 0 where
+  -- The engine came with this subkey and this ready, and after the blocks before it the part has taken these bytes: T is the
+  -- evaluation of the blocks already full, and the bytes after them wait.
+  pub record Holds (h : Block) (can_switch : Bool) (before : List Block)
+      (b : BlockBuffer E) (taken : List ℕ) : Type 0 where
     pub subkey : m.subkey_of b.engine ≡ h
     pub ready : m.ready_of b.engine ≡ can_switch
     pub count : b.count ≡ length taken
@@ -28,8 +29,10 @@ module _ {E : Type 0} (m : Ghosts E) where
     pub value : m.value_of b.engine ≡ eval block_ring h (before ++ full_blocks taken)
     pub bytes : AreBytes taken
 
-  -- Bytes were cut into blocks: those that they fill are hashed, and the rest waits. The count stays. Only private functions cite it.
-  pub record CutsIntoBlocks (old : BlockBuffer E) (bytes : List ℕ) (new : BlockBuffer E) : Type 0 where
+  -- Bytes were cut into blocks: those that they fill are hashed, and the rest waits. The count stays. Only private functions
+  -- cite it.
+  pub record CutsIntoBlocks (old : BlockBuffer E) (bytes : List ℕ)
+      (new : BlockBuffer E) : Type 0 where
     pub hashed : HashesBlocks m old.engine (full_blocks (pending_bytes old ++ bytes)) new.engine
     pub left : pending_bytes new ≡ left_over (pending_bytes old ++ bytes)
     pub count : new.count ≡ old.count
@@ -42,10 +45,13 @@ module _ {E : Type 0} (m : Ghosts E) where
     pub count : new.count ≡ old.count + length piece
     pub part : new.part ≡ old.part
 
-  -- A feed in a state with a buffer: the piece is taken where the count leaves room for it in the part, else nothing at all changes.
-  pub record FeedsPart {S : Type 0} (buffer_of : S → BlockBuffer E) (part : Part) (old : S) (piece : List ℕ) (result : Answer) (new : S) : Type 0 where
+  -- A feed in a state with a buffer: the piece is taken where the count leaves room for it in the part, else nothing changes.
+  pub record FeedsPart {S : Type 0} (buffer_of : S → BlockBuffer E) (part : Part)
+      (old : S) (piece : List ℕ) (result : Answer) (new : S) : Type 0 where
     pub answer : result ≡ answer_after part (buffer_of old).count piece
-    pub outcome : MatchResult result (λ _. TakesPiece (buffer_of old) piece (buffer_of new)) (λ _. new ≡ old)
+    pub outcome : MatchResult result
+        (λ _. TakesPiece (buffer_of old) piece (buffer_of new))
+        (λ _. new ≡ old)
 
   -- A feed of the buffer itself, in the part that it is in.
   abbrev pub Feeds : BlockBuffer E → List ℕ → Answer → BlockBuffer E → Type 0
@@ -76,4 +82,5 @@ module _ {E : Type 0} (m : Ghosts E) where
   -- A call is answered as the plain job answers it, whatever the engine came with and whatever stood before the part.
   abbrev pub BufferFollows : BlockBuffer E → Call → Answer → BlockBuffer E → Type 0
   BufferFollows old call result new =
-      (h : Block) (can_switch : Bool) (before : List Block) → Follows (Holds h can_switch before) old.part can_switch old call result new
+      (h : Block) (can_switch : Bool) (before : List Block)
+      → Follows (Holds h can_switch before) old.part can_switch old call result new

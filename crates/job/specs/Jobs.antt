@@ -25,13 +25,16 @@ module _ {E : Type 0} (m : Ghosts E) where
   HeaderHolds h can_switch job header = Holds m h can_switch [] job.buffer header
 
   -- In the body state the job has taken this header and these bytes of the body.
-  pub record BodyHolds (h : Block) (can_switch : Bool) (job : BodyJob E) (header body : List ℕ) : Type 0 where
+  pub record BodyHolds (h : Block) (can_switch : Bool)
+      (job : BodyJob E) (header body : List ℕ) : Type 0 where
     pub before : job.header ≡ length header
     pub bytes : AreBytes header
     pub holds : Holds m h can_switch (blocks header) job.buffer body
 
-  -- A closed job: hash and tag of these bytes under the subkey and the pad; the engine has its subkey and ready, and T is the hash.
-  pub record Closes (h : Block) (can_switch : Bool) (pad : Pad) (closed : Closed E) (header body : List ℕ) : Type 0 where
+  -- A closed job: hash and tag of these bytes under the subkey and the pad; the engine has its subkey and ready, and T is the
+  -- hash.
+  pub record Closes (h : Block) (can_switch : Bool) (pad : Pad)
+      (closed : Closed E) (header body : List ℕ) : Type 0 where
     pub digest : closed.digest ≡ digest_of h pad header body
     pub value : m.value_of closed.engine ≡ hash_of h header body
     pub subkey : m.subkey_of closed.engine ≡ h
@@ -56,7 +59,8 @@ module _ {E : Type 0} (m : Ghosts E) where
   FeedsHeader old piece result new = FeedsPart m (λ u. u.buffer) Header old piece result new
 
   -- A feed in the body state: the header's length stays.
-  pub record FeedsBody (old : BodyJob E) (piece : List ℕ) (result : Answer) (new : BodyJob E) : Type 0 where
+  pub record FeedsBody (old : BodyJob E) (piece : List ℕ) (result : Answer)
+      (new : BodyJob E) : Type 0 where
     pub feeds : FeedsPart m (λ u. u.buffer) Body old piece result new
     pub header : new.header ≡ old.header
 
@@ -72,18 +76,21 @@ module _ {E : Type 0} (m : Ghosts E) where
   -- A call in the header state is answered as the plain job answers it.
   abbrev pub HeaderFollows : HeaderJob E → Call → Answer → HeaderJob E → Type 0
   HeaderFollows old call result new =
-      (h : Block) (can_switch : Bool) → Follows (HeaderHolds h can_switch) Header can_switch old call result new
+      (h : Block) (can_switch : Bool)
+      → Follows (HeaderHolds h can_switch) Header can_switch old call result new
 
   -- A call in the body state is answered as the plain job answers it, and the header stays.
   abbrev pub BodyFollows : BodyJob E → Call → Answer → BodyJob E → Type 0
   BodyFollows old call result new =
-      (h : Block) (can_switch : Bool) (header : List ℕ) → Follows (λ u. BodyHolds h can_switch u header) Body can_switch old call result new
+      (h : Block) (can_switch : Bool) (header : List ℕ)
+      → Follows (λ u. BodyHolds h can_switch u header) Body can_switch old call result new
 
   -- ---- turn
 
   -- The header's last block was hashed, its length is kept, and the body has taken nothing yet.
   pub record Turns (old : HeaderJob E) (new : BodyJob E) : Type 0 where
-    pub hashed : HashesBlocks m old.buffer.engine (blocks (pending_bytes old.buffer)) new.buffer.engine
+    pub hashed : HashesBlocks m old.buffer.engine
+        (blocks (pending_bytes old.buffer)) new.buffer.engine
     pub left : pending_bytes new.buffer ≡ []
     pub header : new.header ≡ old.buffer.count
     pub count : new.buffer.count ≡ 0
@@ -92,14 +99,18 @@ module _ {E : Type 0} (m : Ghosts E) where
   -- The header is at its end, and the body has taken nothing.
   abbrev pub FollowsTurn : HeaderJob E → BodyJob E → Type 0
   FollowsTurn old new =
-      (h : Block) (can_switch : Bool) (header : List ℕ) → HeaderHolds h can_switch old header → BodyHolds h can_switch new header []
+      (h : Block) (can_switch : Bool) (header : List ℕ)
+      → HeaderHolds h can_switch old header
+      → BodyHolds h can_switch new header []
 
   -- ---- close
 
   -- The body's last block and the length block were hashed.
   abbrev pub ClosedBy : BodyJob E → E → Type 0
   ClosedBy job engine =
-      HashesBlocks m job.buffer.engine (blocks (pending_bytes job.buffer) ++ (block_of_counts job.header job.buffer.count ∷ [])) engine
+      HashesBlocks m job.buffer.engine
+      (blocks (pending_bytes job.buffer) ++ (block_of_counts job.header job.buffer.count ∷ []))
+      engine
 
   -- The close: the hash is T of the engine handed back, and the pad makes it the tag.
   pub record ClosesBody (job : BodyJob E) (pad : Pad) (closed : Closed E) : Type 0 where
@@ -109,10 +120,13 @@ module _ {E : Type 0} (m : Ghosts E) where
   -- The job closes with hash and tag of the header and the body that it has taken.
   abbrev pub FollowsClose : BodyJob E → Pad → Closed E → Type 0
   FollowsClose job pad closed =
-      (h : Block) (can_switch : Bool) (header body : List ℕ) → BodyHolds h can_switch job header body → Closes h can_switch pad closed header body
+      (h : Block) (can_switch : Bool) (header body : List ℕ)
+      → BodyHolds h can_switch job header body
+      → Closes h can_switch pad closed header body
 
   -- They are those of the standard.
   abbrev pub ClosesByStandard : BodyJob E → Pad → Closed E → Type 0
   ClosesByStandard job pad closed =
-      (h : Block) (can_switch : Bool) (header body : List ℕ) → BodyHolds h can_switch job header body
+      (h : Block) (can_switch : Bool) (header body : List ℕ)
+      → BodyHolds h can_switch job header body
       → MeetsStandard h pad header body closed.digest

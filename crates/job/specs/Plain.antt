@@ -16,7 +16,8 @@ has_room part count piece = nat_le (count + length piece) (limit_of part)
 
 -- what a piece is answered after so many bytes: accepted within the limit, else the part's refusal
 abbrev pub answer_after : Part → ℕ → List ℕ → Answer
-answer_after part count piece = if has_room part count piece then Ok tt else Err (part_refusal part)
+answer_after part count piece =
+    if has_room part count piece then Ok tt else Err (part_refusal part)
 
 -- whether the taken bytes and the piece together are within the part's limit
 abbrev pub fits : Part → List ℕ → List ℕ → Bool
@@ -39,9 +40,10 @@ abbrev pub taken_after_call : Part → List ℕ → Call → List ℕ
 taken_after_call part taken (Feed piece) = taken_after part taken piece.now
 taken_after_call part taken Switch = taken
 
--- A call made in one state, which led to another: whatever the plain job had taken that the first state holds, the call is answered as
--- the plain job answers it, and the second state holds what the plain job has taken then.
-abbrev pub Follows : {S : Type 0} → (S → List ℕ → Type 0) → Part → Bool → S → Call → Answer → S → Type 0
+-- A call leads from one state to another as in the plain job: whatever was taken before it, it is answered as the plain job
+-- answers, and the new state holds what the plain job has taken then.
+abbrev pub Follows : {S : Type 0} → (S → List ℕ → Type 0) → Part → Bool
+    → S → Call → Answer → S → Type 0
 Follows Holds part ready old call result new =
     (taken : List ℕ) → Holds old taken
     → (result ≡ answer_to part ready taken call) × Holds new (taken_after_call part taken call)

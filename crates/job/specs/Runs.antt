@@ -33,16 +33,19 @@ final_block taken = drop (length (full_blocks taken)) (blocks taken)
 
 -- for a call: an absorb for each block that its piece fills, or the switch with its answer
 abbrev pub operations_for : List ℕ → Call → Answer → List Operation
-operations_for taken (Feed piece) answer = map absorb (new_blocks taken (call_bytes (Feed piece) answer))
+operations_for taken (Feed piece) answer =
+    map absorb (new_blocks taken (call_bytes (Feed piece) answer))
 operations_for taken Switch answer = switch (is_ok answer) ∷ []
 
 -- for a list of calls with their answers, after these bytes
 abbrev pub operations_of : List ℕ → List Call → List Answer → List Operation
 operations_of taken [] answers = []
 operations_of taken (c ∷ cs) [] = []
-operations_of taken (c ∷ cs) (a ∷ more) = operations_for taken c a ++ operations_of (taken ++ call_bytes c a) cs more
+operations_of taken (c ∷ cs) (a ∷ more) =
+    operations_for taken c a ++ operations_of (taken ++ call_bytes c a) cs more
 
--- for a whole job: from zero, what the header's calls ask and its end, what the body's calls ask and its end, and the length block
+-- for a whole job, whatever it goes through within the header and within the body: from zero, the header and its last block, the
+-- body and its last block, and the length block
 abbrev pub job_operations : List Operation → List ℕ → List Operation → List ℕ → List Operation
 job_operations of_header header of_body body =
     resume block_ring.zero
@@ -54,7 +57,9 @@ job_operations of_header header of_body body =
 -- for a whole job from lists of calls
 abbrev pub run_operations : List Call → List Answer → List Call → List Answer → List Operation
 run_operations hs xs bs ys =
-    job_operations (operations_of [] hs xs) (accepted_bytes hs xs) (operations_of [] bs ys) (accepted_bytes bs ys)
+    job_operations
+    (operations_of [] hs xs) (accepted_bytes hs xs)
+    (operations_of [] bs ys) (accepted_bytes bs ys)
 
 -- the block that an operation absorbs
 abbrev pub absorb_of : Operation → List Block
@@ -82,10 +87,13 @@ switch_answers (Feed piece ∷ cs) (a ∷ more) = switch_answers cs more
 switch_answers (Switch ∷ cs) (a ∷ more) = is_ok a ∷ switch_answers cs more
 
 -- One resume, at zero; one absorb for each block of the block list, in order; one switch for each switch, with its answer.
-pub record InOrder (hs : List Call) (xs : List Answer) (bs : List Call) (ys : List Answer) : Type 0 where
+pub record InOrder (hs : List Call) (xs : List Answer) (bs : List Call) (ys : List Answer)
+    : Type 0 where
   pub resumes : flat_map resume_of (run_operations hs xs bs ys) ≡ block_ring.zero ∷ []
-  pub absorbs : flat_map absorb_of (run_operations hs xs bs ys) ≡ block_list (accepted_bytes hs xs) (accepted_bytes bs ys)
-  pub switches : flat_map switch_of (run_operations hs xs bs ys) ≡ switch_answers hs xs ++ switch_answers bs ys
+  pub absorbs : flat_map absorb_of (run_operations hs xs bs ys)
+      ≡ block_list (accepted_bytes hs xs) (accepted_bytes bs ys)
+  pub switches : flat_map switch_of (run_operations hs xs bs ys)
+      ≡ switch_answers hs xs ++ switch_answers bs ys
 
 -- ---- the calls of one part
 
@@ -95,24 +103,27 @@ row_after row answers = take (length row) answers ++ drop (length answers) row
 
 module _ {E : Type 0} (m : Ghosts E) where
   -- From one state to another by a list of calls with their answers, after these bytes.
-  pub record AnswersFrom (h : Block) (can_switch : Bool) (before : List Block) (f : BlockBuffer E) (taken : List ℕ)
-      (calls : List Call) (answers : List Answer) (t : BlockBuffer E) : Type 0 where
-    pub said : answers ≡ answers_to f.part can_switch taken calls
-    pub holds : Holds m h can_switch before t (taken ++ accepted_bytes calls answers)
-    pub chain : Chain m (operations_of taken calls answers) f.engine t.engine
+  pub record AnswersFrom (h : Block) (can_switch : Bool) (before : List Block)
+      (old : BlockBuffer E) (taken : List ℕ) (calls : List Call) (answers : List Answer)
+      (new : BlockBuffer E) : Type 0 where
+    pub said : answers ≡ answers_to old.part can_switch taken calls
+    pub holds : Holds m h can_switch before new (taken ++ accepted_bytes calls answers)
+    pub chain : Chain m (operations_of taken calls answers) old.engine new.engine
 
   -- The same, whatever was taken before. Only private functions cite it.
   abbrev pub AnswersCalls : BlockBuffer E → List Call → List Answer → BlockBuffer E → Type 0
-  AnswersCalls f calls answers t =
-      (h : Block) (can_switch : Bool) (before : List Block) (taken : List ℕ) → Holds m h can_switch before f taken
-      → AnswersFrom h can_switch before f taken calls answers t
+  AnswersCalls old calls answers new =
+      (h : Block) (can_switch : Bool) (before : List Block) (taken : List ℕ)
+      → Holds m h can_switch before old taken
+      → AnswersFrom h can_switch before old taken calls answers new
 
   -- Each of a list of calls was made, and its answer went to a row. Only private functions cite it.
-  pub record AnswersIntoRow (f : BlockBuffer E) (calls : List Call) (row : List Answer) (t : BlockBuffer E) (after : List Answer) : Type 0 where
+  pub record AnswersIntoRow (old : BlockBuffer E) (calls : List Call) (row : List Answer)
+      (new : BlockBuffer E) (after : List Answer) : Type 0 where
     pub answers : List Answer
     pub count : length answers ≡ length calls
     pub written : after ≡ row_after row answers
-    pub answered : AnswersCalls f calls answers t
+    pub answered : AnswersCalls old calls answers new
 
 -- ---- a run
 
@@ -135,12 +146,15 @@ module _ {E : Type 0} (m : Ghosts E) (engine : E) (calls : Calls) where
   abbrev pub hash_of_run : Block
   hash_of_run = hash_of (m.subkey_of engine) taken_header taken_body
 
-  -- The run closes with hash and tag of the taken bytes, which are those of the standard and within the limits; the engine went through
-  -- what the calls ask, in order, from the one handed in to the one handed back.
+  -- The run closes with hash and tag of the taken bytes, which are within the limits; they are those of the standard; and from the
+  -- engine handed in to the one handed back it went through what the calls ask, in order.
   pub record Replays (pad : Pad) (closed : Closed E) : Type 0 where
     pub short : length taken_header ≤ header_limit
     pub few : length taken_body ≤ body_limit
-    pub closes : Closes m (m.subkey_of engine) (m.ready_of engine) pad closed taken_header taken_body
+    pub closes : Closes m (m.subkey_of engine) (m.ready_of engine) pad
+        closed taken_header taken_body
     pub standard : MeetsStandard (m.subkey_of engine) pad taken_header taken_body closed.digest
-    pub chain : Chain m (run_operations calls.header.now header_answers calls.body.now body_answers) engine closed.engine
+    pub chain : Chain m
+        (run_operations calls.header.now header_answers calls.body.now body_answers)
+        engine closed.engine
     pub order : InOrder calls.header.now header_answers calls.body.now body_answers

@@ -1,11 +1,11 @@
 // The bytes of a part, cut into blocks on their way to an engine.
 //
-// Fewer than 16 bytes wait for their block. The byte that fills it sends it to the engine, and 16 bytes that find none waiting go there
-// straight. So the engine has always hashed the full blocks of all bytes that were taken, and what waits is the rest, wherever the
-// bytes were parted into pieces. At the end of the part, what waits is filled with zeros and hashed.
+// Fewer than 16 bytes wait for their block. The byte that fills it sends it to the engine, and 16 bytes that find none waiting go
+// there straight. So the engine has always hashed the full blocks of all bytes that were taken, and what waits is the rest,
+// wherever the bytes were parted into pieces. At the end of the part, what waits is filled with zeros and hashed.
 //
-// The count is of all bytes taken, those that wait too. The limit looks at it alone, before anything of a piece is taken, so a piece is
-// taken whole or not at all.
+// The count is of all bytes taken, those that wait too. It alone is held against the limit, before anything of a piece is taken, so
+// a piece is taken whole or not at all.
 ghost use Rattle.std.specs.Prelude.{◌≡◌, ◌<◌, ◌≤◌, [], ◌∷◌, slice_set, take};
 ghost use Rattle.arrayvec.specs.ArrayVec.{array_vec_len};
 ghost use Rattle.engine.specs.Rows.{HashesBlocks};

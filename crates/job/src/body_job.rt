@@ -47,10 +47,7 @@ impl<E: Engine> BodyJob<E> {
         ensures standard { ClosesByStandard E.Engine self pad result }
         ensures whole { ClosesBody E.Engine self pad result }
     {
-        let BodyJob {
-            mut buffer,
-            header,
-        } = self;
+        let BodyJob { mut buffer, header } = self;
         buffer.flush();
         let BlockBuffer {
             mut engine,

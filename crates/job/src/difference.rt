@@ -1,8 +1,8 @@
 // Two hashes under one subkey, and what they differ by.
 //
-// A hash is the evaluation of a block list at the subkey, and an evaluation is linear in its list. So where two lists have one length,
-// the xor of their hashes is the evaluation of the lists xored, and the blocks that they share count for nothing. The lists have one
-// length, and part at the same places, where both headers are as long as each other and both bodies are.
+// A hash is the evaluation of a block list at the subkey, and an evaluation is linear in its list. So where two lists have one
+// length, the xor of their hashes is the evaluation of the lists xored, and the blocks that they share count for nothing. The lists
+// have one length where both headers have one length and both bodies have one length.
 ghost use Rattle.std.specs.Prelude.{◌≡◌};
 ghost use Rattle.field.specs.Kinds.{block_ring};
 ghost use Rattle.job.specs.Differences.{RunsXorIsEvaluation, XorIsEvaluation, xor_of_runs};
@@ -23,8 +23,8 @@ pub fn hash_difference<A: Engine, B: Engine>(first: &Closed<A>, second: &Closed<
     first.digest.hash + second.digest.hash
 }
 
-/// The xor of the hashes that two whole jobs come to, each on an engine of its own. Where the engines have one subkey and the jobs take
-/// as many bytes of each part, it is the evaluation, at that subkey, of their block lists xored.
+/// The xor of the hashes that two whole jobs come to, each on an engine of its own. Where the engines have one subkey and the jobs
+/// take as many bytes of each part, it is the evaluation, at that subkey, of their block lists xored.
 pub fn difference_of_runs<A: Engine + Drop, B: Engine + Drop>(
     first: A,
     first_calls: Calls,

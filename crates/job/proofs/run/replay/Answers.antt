@@ -3,7 +3,7 @@ use Rattle.message.specs.Blocks.{blocks}
 use Rattle.message.specs.Limits.{body_limit, limit_of}
 use Rattle.message.specs.declared.part.Part.{Part}
 use Rattle.message.specs.declared.part.Part.TheVariants.{Header, Body}
-use Rattle.job.specs.Plain.{Answer, part_answers, bytes_taken}
+use Rattle.job.specs.Plain.{part_answers, bytes_taken}
 use Rattle.job.specs.declared.call.Call.{Call}
 use Rattle.job.proofs.Answering.{from_beginning}
 use Rattle.job.proofs.Ordering.{in_order}
@@ -26,10 +26,12 @@ returns g c =
     let f = c.answer_all.new.self in
     let t = c.answer_all-2.new.self in
     let first =
-    from_beginning m i.buffer c.args.header_answers.now h can_switch [] Header f hs c.answer_all.new.row i.taking c.answer_all.ensures.answered c.start-job.ensures.holds in
+    from_beginning m i.buffer c.args.header_answers.now h can_switch [] Header f hs c.answer_all.new.row
+    i.taking c.answer_all.ensures.answered c.start-job.ensures.holds in
     let turned = c.turn-job.ensures.holds h can_switch header first.1.holds in
     let second =
-    from_beginning m b.buffer c.args.body_answers.now h can_switch (blocks header) Body t bs c.answer_all-2.new.row b.taking c.answer_all-2.ensures.answered turned.holds in
+    from_beginning m b.buffer c.args.body_answers.now h can_switch (blocks header) Body t bs c.answer_all-2.new.row
+    b.taking c.answer_all-2.ensures.answered turned.holds in
     let few : t.count ≤ body_limit = subst (λ (p : Part). t.count ≤ limit_of p) (c.answer_all-2.ensures.part ∙ b.taking) t.few in
     let held = body_held m h can_switch b _ header body refl turned second.1.holds in
     record {
@@ -41,8 +43,10 @@ returns g c =
         closes = c.close.ensures.closes h can_switch header body held;
         standard = c.close.ensures.standard h can_switch header body held;
         chain =
-            job_chain m h can_switch engine c.args.pad i _ b _ c.close.result header body c.start-job.ensures.whole first.1.holds c.turn-job.ensures.whole held c.close.ensures.whole
-            (operations_of [] hs (part_answers Header can_switch hs)) (operations_of [] bs (part_answers Body can_switch bs)) first.1.chain second.1.chain;
+            job_chain m h can_switch engine c.args.pad i _ b _ c.close.result header body
+            c.start-job.ensures.whole first.1.holds c.turn-job.ensures.whole held c.close.ensures.whole
+            (operations_of [] hs (part_answers Header can_switch hs)) (operations_of [] bs (part_answers Body can_switch bs))
+            first.1.chain second.1.chain;
         order = in_order hs (part_answers Header can_switch hs) bs (part_answers Body can_switch bs);
       };
     }

@@ -31,7 +31,8 @@ returns g c =
     let same = ap chunks_rest c.into_iter-block-iterator.ensures.into_iter_gives ∙ c.chunks-block-items.ensures.rest in
     let none : chunks_rest c.loop-block.block-iterator ≡ [] = nil_from_length _ c.in-None.ensures.steps.1.0 in
     let all : c.split_at.result.0.now ++ inv.0 ≡ piece =
-    ap (λ xs. c.split_at.result.0.now ++ xs) (sym (sym same ∙ inv.1 ∙ ap (λ xs. inv.0 ++ xs) none ∙ append-nil inv.0)) ∙ sym cut.by_index.0 in
+    ap (λ xs. c.split_at.result.0.now ++ xs) (sym (sym same ∙ inv.1 ∙ ap (λ xs. inv.0 ++ xs) none ∙ append-nil inv.0))
+    ∙ sym cut.by_index.0 in
     let done = cut_append m _ c.hold.new.self t c.split_at.result.0.now inv.0 c.hold.ensures inv.2 in
     let fed : TakesPiece m f piece t = takes_by m f _ t _ piece done all refl refl refl refl in
     let below = c.if-piece-limit.false in

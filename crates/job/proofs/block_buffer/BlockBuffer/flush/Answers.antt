@@ -18,7 +18,8 @@ returns-then-not-is_empty g c =
     let some : 0 < length (pending_bytes f) = omega (arith, other) in
     record {
       hashed =
-          subst (λ (ps : List Block). HashesBlocks m f.engine ps e) (sym (last_block (pending_bytes f) some (omega (arith, f.room))))
+          subst (λ (ps : List Block). HashesBlocks m f.engine ps e)
+          (sym (last_block (pending_bytes f) some (omega (arith, f.room))))
           c.absorb_pending.ensures.hashed;
       left = c.absorb_pending.ensures.left;
       count = refl;

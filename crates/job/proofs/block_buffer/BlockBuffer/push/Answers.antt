@@ -18,7 +18,8 @@ returns-then-is_full g c =
     let full : length joined ≡ 16 = sym (ap length pending) ∙ eqb-true _ _ (sym c.is_full.ensures.value ∙ c.if-is_full.true) in
     record {
       hashed =
-          subst (λ (ps : List Block). HashesBlocks m f.engine ps e) (ap (λ xs. block_from (take 16 xs) ∷ []) pending ∙ sym (full_one joined full))
+          subst (λ (ps : List Block). HashesBlocks m f.engine ps e)
+          (ap (λ xs. block_from (take 16 xs) ∷ []) pending ∙ sym (full_one joined full))
           c.absorb_pending.ensures.hashed;
       left = c.absorb_pending.ensures.left ∙ sym (left_none joined full);
       count = refl;

@@ -1,6 +1,6 @@
 use Rattle.std.proofs.Common.{◌≡◌, Bool, ℕ, List, [], ◌∷◌, sym, ap, ◌∙◌, subst}
 use Rattle.field.specs.declared.block.Block.{Block}
-use Rattle.message.specs.Answer.{digest_of, digest_under}
+use Rattle.message.specs.Answer.{digest_under}
 use Rattle.message.specs.Blocks.{blocks, block_of_counts}
 use Rattle.message.specs.Hash.{hash_of}
 use Rattle.message.specs.Standard.{MeetsStandard}
@@ -23,9 +23,12 @@ returns g c =
     let said = c.absorb.ensures in
     let counted : c.block_of_byte_counts.result ≡ block_of_counts j.header f.count =
     c.block_of_byte_counts.ensures ∙ ap (block_of_counts j.header) flushed.count in
-    let last = hashed_one m t.engine e c.block_of_byte_counts.result (block_of_counts j.header f.count) said.value said.subkey said.ready said.whole counted in
+    let last =
+    hashed_one m t.engine e c.block_of_byte_counts.result (block_of_counts j.header f.count)
+    said.value said.subkey said.ready said.whole counted in
     let made : c.new.result ≡ digest_under pad (m.value_of e) = c.new.ensures ∙ ap (digest_under pad) c.value-hash.ensures.answer in
-    let value : (h : Block) (can_switch : Bool) (header body : List ℕ) → BodyHolds m h can_switch j header body → m.value_of e ≡ hash_of h header body =
+    let value : (h : Block) (can_switch : Bool) (header body : List ℕ) → BodyHolds m h can_switch j header body
+    → m.value_of e ≡ hash_of h header body =
     closed_value m j t e flushed last in
     record {
       closes = λ h can_switch header body held. record {
@@ -38,7 +41,9 @@ returns g c =
           subst (MeetsStandard h pad header body) (sym (made ∙ ap (digest_under pad) (value h can_switch header body held)))
           (meets_standard h pad header body held.bytes held.holds.bytes);
       whole = record {
-        hashed = hashed_append m f.engine t.engine e (blocks (pending_bytes f)) (block_of_counts j.header f.count ∷ []) flushed.hashed last;
+        hashed =
+            hashed_append m f.engine t.engine e (blocks (pending_bytes f))
+            (block_of_counts j.header f.count ∷ []) flushed.hashed last;
         digest = made;
       };
     }
