@@ -59,9 +59,6 @@ block_sum_bits = sum_number block_shape block_lawful block_residues
 pub block_product_bits : (u v : Block) → (block_ring.product u v).bits ≡ bit_product block_shape 128 u.bits v.bits
 block_product_bits = product_number block_shape block_lawful block_residues
 
--- an element is its own negative
+-- a block is its own negative
 pub block_even : (x : Block) → block_ring.sum x x ≡ block_ring.zero
 block_even x = ap block (xor_self x.bits)
-
-pub nibble_even : (x : Nibble) → nibble_ring.sum x x ≡ nibble_ring.zero
-nibble_even x = ap nibble (xor_self x.bits)
