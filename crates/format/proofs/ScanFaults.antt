@@ -47,17 +47,17 @@ scan_flawed file k flaw f =
     ∙ ap (λ (o : Option Refusal). refusal_or o (scan_result (suc k) (as_predecessor (block_at file k)) (first_chunks 512 m (drop 512 (drop (512 * k) file))))) (first_fault file k flaw f.here)
 
 -- the first n blocks have no flaw, or one of them is the first that has
-flaw_below : (n : ℕ) (file : List ℕ) → n ≤ block_count file → ((k : ℕ) → k < n → HasNoFlaw file k) ⊎ ((k : ℕ) × (flaw : Flaw) × IsFirstFlaw file k flaw)
-flaw_below zero file within = inl (λ k less. absurd (omega arith))
-flaw_below (suc n) file within =
-    elim (flaw_below n file (omega arith)) [
+flaw_below : (n : ℕ) (file : List ℕ) → HasFileSize file → n ≤ block_count file → ((k : ℕ) → k < n → HasNoFlaw file k) ⊎ ((k : ℕ) × (flaw : Flaw) × IsFirstFlaw file k flaw)
+flaw_below zero file size within = inl (λ k less. absurd (omega arith))
+flaw_below (suc n) file size within =
+    elim (flaw_below n file size (omega arith)) [
       | inr f ↦ inr f
       | inl sound ↦ elim (sound_or_flawed file n) [
         | inl here ↦ inl (λ k less. elim (cases_eq k n) [
           | inl same ↦ subst (HasNoFlaw file) (sym same) here
           | inr other ↦ sound k (omega arith)
         ])
-        | inr flaw ↦ inr (n, flaw.0, record { within = omega arith; here = flaw.1; before = sound })
+        | inr flaw ↦ inr (n, flaw.0, record { size = size; within = omega arith; here = flaw.1; before = sound })
       ]
     ]
 
@@ -98,8 +98,8 @@ module _ (file : List ℕ) where
       ∙ ap (λ (kind : ℕ). ended (eqb kind 3)) (kind_before_end file size)
       ∙ ap ended same
 
-  flawed : (k : ℕ) (flaw : Flaw) → HasFileSize file → IsFirstFlaw file k flaw → scan_answer file ≡ Err (refusal_of flaw k)
-  flawed k flaw size f = of_size true ((size_decides file).1 size) ∙ ap gone_through (scan_flawed file k flaw f)
+  flawed : (k : ℕ) (flaw : Flaw) → IsFirstFlaw file k flaw → scan_answer file ≡ Err (refusal_of flaw k)
+  flawed k flaw f = of_size true ((size_decides file).1 f.size) ∙ ap gone_through (scan_flawed file k flaw f)
 
   -- the scan of a file without fault
   pub scan_passes : PassesScan file → scan_answer file ≡ Ok (lengths_in file)
@@ -108,20 +108,20 @@ module _ (file : List ℕ) where
   -- and of one with this fault
   pub scan_refuses : (e : Refusal) → IsScanFault file e → scan_answer file ≡ Err e
   scan_refuses FileSize h = of_size false (false_from_ne_true (is_size_good file) (λ good. h ((size_decides file).0 good)))
-  scan_refuses (WrongCheck k) h = flawed k check h.0 h.1
-  scan_refuses (WrongNumber k) h = flawed k number h.0 h.1
-  scan_refuses (WrongForm k) h = flawed k form h.0 h.1
-  scan_refuses (WrongOrder k) h = flawed k order h.0 h.1
+  scan_refuses (WrongCheck k) h = flawed k check h
+  scan_refuses (WrongNumber k) h = flawed k number h
+  scan_refuses (WrongForm k) h = flawed k form h
+  scan_refuses (WrongOrder k) h = flawed k order h
   scan_refuses (NoEnd n) h =
-      flawless h.0.size h.0.blocks false (ne_eqb (last_kind file) 3 h.0.no_end)
-      ∙ ap (λ (j : ℕ). Err (NoEnd j)) (sym h.1)
+      flawless h.size h.blocks false (ne_eqb (last_kind file) 3 h.no_end)
+      ∙ ap (λ (j : ℕ). Err (NoEnd j)) (sym h.counted)
   scan_refuses other h = absurd h
 
-  named_first : (k : ℕ) (flaw : Flaw) → HasFileSize file → IsFirstFlaw file k flaw → IsScanFault file (refusal_of flaw k)
-  named_first k check size f = (size, f)
-  named_first k number size f = (size, f)
-  named_first k form size f = (size, f)
-  named_first k order size f = (size, f)
+  named_first : (k : ℕ) (flaw : Flaw) → IsFirstFlaw file k flaw → IsScanFault file (refusal_of flaw k)
+  named_first k check f = f
+  named_first k number f = f
+  named_first k form f = f
+  named_first k order f = f
 
   -- every file passes the scan, or has a fault
   pub pass_or_fault : PassesScan file ⊎ ((e : Refusal) × IsScanFault file e)
@@ -130,11 +130,11 @@ module _ (file : List ℕ) where
         | inr bad ↦ inr (FileSize, not_from_Decides (is_size_good file) (size_decides file) bad)
         | inl good ↦
             let size : HasFileSize file = (size_decides file).0 good in
-            elim (flaw_below (block_count file) file (omega arith)) [
-              | inr f ↦ inr (refusal_of f.1 f.0, named_first f.0 f.1 size f.2)
+            elim (flaw_below (block_count file) file size (omega arith)) [
+              | inr f ↦ inr (refusal_of f.1 f.0, named_first f.0 f.1 f.2)
               | inl sound ↦ elim (cases_eq (last_kind file) 3) [
                 | inl end ↦ inl (record { size = size; blocks = sound; end = end })
-                | inr other ↦ inr (NoEnd (block_count file), (record { size = size; blocks = sound; no_end = other }, refl))
+                | inr other ↦ inr (NoEnd (block_count file), record { size = size; blocks = sound; no_end = other; counted = refl })
               ]
             ]
       ]
@@ -145,13 +145,6 @@ module _ (file : List ℕ) where
       elim pass_or_fault [
         | inl pass ↦ absurd (not_both (scan_passes pass) refused)
         | inr f ↦ subst (IsScanFault file) (one_reason (scan_refuses f.0 f.1) refused) f.1
-      ]
-
-  pub scan_pass : (lens : Lengths) → scan_answer file ≡ Ok lens → PassesScan file
-  scan_pass lens accepted =
-      elim pass_or_fault [
-        | inl pass ↦ pass
-        | inr f ↦ absurd (not_both accepted (scan_refuses f.0 f.1))
       ]
 
 -- no fault that the scan finds is that of a tag
