@@ -50,7 +50,8 @@ turn_of order = 3
 
 -- block k of a file has not this flaw
 abbrev pub IsFreeOf : List ℕ → ℕ → Flaw → Type 0
-IsFreeOf file k check = stored_check (block_at file k) ≡ check_of (take check_place (block_at file k))
+IsFreeOf file k check =
+    stored_check (block_at file k) ≡ check_of (take check_place (block_at file k))
 IsFreeOf file k number = number_in (block_at file k) ≡ k
 IsFreeOf file k form = IsFormed (block_at file k)
 IsFreeOf file k order = MayFollow (predecessor_at file k) (kind_in (block_at file k))

@@ -59,7 +59,8 @@ pub record IsSealOf (subkey pad : Block) (header body file : List ℕ) : Type 0 
   pub made : file ≡ sealed_file subkey pad header body
 
 -- An answer that accepts exactly the files that the writer makes.
-pub record Exact (subkey pad : Block) (file : List ℕ) (answer : Result Lengths Refusal) : Type 0 where
+pub record Exact (subkey pad : Block) (file : List ℕ)
+    (answer : Result Lengths Refusal) : Type 0 where
   -- accepted exactly where the writer makes the file from the header and body read out of it
   pub exactly : IsOk answer ↔ IsSealOf subkey pad (header_in file) (body_in file) file
   -- and answered with the lengths of these two
@@ -71,6 +72,7 @@ pub record Exact (subkey pad : Block) (file : List ℕ) (answer : Result Lengths
 
 -- What a header and a body are sealed into is accepted, and both are read out of it again.
 pub record Reopens (subkey pad : Block) (header body : List ℕ) : Type 0 where
-  pub accepted : verdict subkey pad (sealed_file subkey pad header body) ≡ Ok (lengths_of header body)
+  pub accepted :
+      verdict subkey pad (sealed_file subkey pad header body) ≡ Ok (lengths_of header body)
   pub header_again : header_in (sealed_file subkey pad header body) ≡ header
   pub body_again : body_in (sealed_file subkey pad header body) ≡ body
