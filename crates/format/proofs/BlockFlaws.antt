@@ -63,7 +63,8 @@ refusal_of form k = WrongForm k
 refusal_of order k = WrongOrder k
 
 -- what holds of each flaw whose turn comes before the n-th
-turns_below : (n : ℕ) (P : Flaw → Type 0) → (0 < n → P check) → (1 < n → P number) → (2 < n → P form) → (3 < n → P order) → (flaw : Flaw) → turn_of flaw < n → P flaw
+turns_below : (n : ℕ) (P : Flaw → Type 0) → (0 < n → P check) → (1 < n → P number) → (2 < n → P form)
+    → (3 < n → P order) → (flaw : Flaw) → turn_of flaw < n → P flaw
 turns_below n P a b c d check less = a less
 turns_below n P a b c d number less = b less
 turns_below n P a b c d form less = c less
@@ -112,7 +113,8 @@ module _ (test : Flaw → Bool) where
   first_failed k check f = rw (f.failed)
   first_failed k number f = rw (f.earlier check (omega arith), f.failed)
   first_failed k form f = rw (f.earlier check (omega arith), f.earlier number (omega arith), f.failed)
-  first_failed k order f = rw (f.earlier check (omega arith), f.earlier number (omega arith), f.earlier form (omega arith), f.failed)
+  first_failed k order f =
+      rw (f.earlier check (omega arith), f.earlier number (omega arith), f.earlier form (omega arith), f.failed)
 
 -- ---- the fault of block k
 

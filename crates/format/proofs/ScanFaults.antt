@@ -22,23 +22,27 @@ scan_step : (k m : ℕ) (file : List ℕ) → HasNoFlaw file k
     → scan_result k (predecessor_at file k) (first_chunks 512 (suc m) (drop (512 * k) file)) ≡ scan_result (suc k) (predecessor_at file (suc k)) (first_chunks 512 m (drop (512 * suc k) file))
 scan_step k m file sound =
     let further : 512 * k + 512 ≡ 512 * suc k = omega arith in
-    let rest : drop 512 (drop (512 * k) file) ≡ drop (512 * suc k) file = drop-drop 512 (512 * k) file ∙ ap (λ (j : ℕ). drop j file) further in
+    let rest : drop 512 (drop (512 * k) file) ≡ drop (512 * suc k) file =
+    drop-drop 512 (512 * k) file ∙ ap (λ (j : ℕ). drop j file) further in
     λ i. refusal_or (block_passes file k sound i) (scan_result (suc k) (as_predecessor (block_at file k)) (first_chunks 512 m (rest i)))
 
 -- k blocks with no flaw
 pub scan_from : (k m n : ℕ) (file : List ℕ) → k + m ≡ n → ((j : ℕ) → j < k → HasNoFlaw file j)
     → scan_result 0 no_predecessor (first_chunks 512 n file) ≡ scan_result k (predecessor_at file k) (first_chunks 512 m (drop (512 * k) file))
-scan_from zero m n file all sound = let same : n ≡ m = omega arith in ap (λ (j : ℕ). scan_result 0 no_predecessor (first_chunks 512 j file)) same
+scan_from zero m n file all sound =
+    let same : n ≡ m = omega arith in ap (λ (j : ℕ). scan_result 0 no_predecessor (first_chunks 512 j file)) same
 scan_from (suc k) m n file all sound =
     scan_from k (suc m) n file (omega arith) (λ j less. sound j (omega arith)) ∙ scan_step k m file (sound k (omega arith))
 
 -- all blocks
-pub scan_flawless : (file : List ℕ) → IsFlawless file → scan_result 0 no_predecessor (blocks_of file) ≡ Ok (predecessor_at file (block_count file))
+pub scan_flawless : (file : List ℕ) → IsFlawless file
+    → scan_result 0 no_predecessor (blocks_of file) ≡ Ok (predecessor_at file (block_count file))
 unfolding blocks_of
 scan_flawless file sound = scan_from (block_count file) 0 (block_count file) file (omega arith) sound
 
 -- up to the first flaw
-scan_flawed : (file : List ℕ) (k : ℕ) (flaw : Flaw) → IsFirstFlaw file k flaw → scan_result 0 no_predecessor (blocks_of file) ≡ Err (refusal_of flaw k)
+scan_flawed : (file : List ℕ) (k : ℕ) (flaw : Flaw) → IsFirstFlaw file k flaw
+    → scan_result 0 no_predecessor (blocks_of file) ≡ Err (refusal_of flaw k)
 unfolding blocks_of
 scan_flawed file k flaw f =
     let within : k < block_count file = f.within in
@@ -47,7 +51,8 @@ scan_flawed file k flaw f =
     ∙ ap (λ (o : Option Refusal). refusal_or o (scan_result (suc k) (as_predecessor (block_at file k)) (first_chunks 512 m (drop 512 (drop (512 * k) file))))) (first_fault file k flaw f.here)
 
 -- the first n blocks have no flaw, or one of them is the first that has
-flaw_below : (n : ℕ) (file : List ℕ) → HasFileSize file → n ≤ block_count file → ((k : ℕ) → k < n → HasNoFlaw file k) ⊎ ((k : ℕ) × (flaw : Flaw) × IsFirstFlaw file k flaw)
+flaw_below : (n : ℕ) (file : List ℕ) → HasFileSize file → n ≤ block_count file
+    → ((k : ℕ) → k < n → HasNoFlaw file k) ⊎ ((k : ℕ) × (flaw : Flaw) × IsFirstFlaw file k flaw)
 flaw_below zero file size within = inl (λ k less. absurd (omega arith))
 flaw_below (suc n) file size within =
     elim (flaw_below n file size (omega arith)) [
@@ -88,7 +93,8 @@ module _ (file : List ℕ) where
   abbrev gone_through : Result Predecessor Refusal → Result Lengths Refusal
   gone_through r = and_then r (λ last. ended (eqb last.kind 3))
 
-  of_size : (t : Bool) → is_size_good file ≡ t → scan_answer file ≡ cond t (gone_through (scan_result 0 no_predecessor (blocks_of file))) (Err FileSize)
+  of_size : (t : Bool) → is_size_good file ≡ t
+      → scan_answer file ≡ cond t (gone_through (scan_result 0 no_predecessor (blocks_of file))) (Err FileSize)
   of_size t same = ap (λ (u : Bool). cond u (gone_through (scan_result 0 no_predecessor (blocks_of file))) (Err FileSize)) same
 
   flawless : HasFileSize file → IsFlawless file → (t : Bool) → eqb (last_kind file) 3 ≡ t → scan_answer file ≡ ended t

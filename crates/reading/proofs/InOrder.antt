@@ -17,13 +17,15 @@ order_kept : (p : Predecessor) (kind : ℕ) → is_order_good p kind ≡ true �
 order_kept p kind good = grind (arith, nat_tests)
 
 -- after a block of a later kind stands none of an earlier
-none_later : (kind k : ℕ) (p q : Predecessor) (bs : List (List ℕ)) → scan_result k p bs ≡ Ok q → kind < p.kind → blocks_of_kind kind bs ≡ []
+none_later : (kind k : ℕ) (p q : Predecessor) (bs : List (List ℕ)) → scan_result k p bs ≡ Ok q → kind < p.kind
+    → blocks_of_kind kind bs ≡ []
 none_later kind k p q [] done less = refl
 none_later kind k p q (b ∷ bs) done less =
     let on = went_on (fault_of k p b) (scan_result (suc k) (as_predecessor b) bs) q done in
     let order = order_kept p (kind_in b) (faultless k p b on.0).order in
     let other : eqb (kind_in b) kind ≡ false = ne_eqb (kind_in b) kind (λ same. omega (arith, same, less, order)) in
-    cond-false _ (b ∷ blocks_of_kind kind bs) (blocks_of_kind kind bs) other ∙ none_later kind (suc k) (as_predecessor b) q bs on.1 (omega (arith, less, order))
+    cond-false _ (b ∷ blocks_of_kind kind bs) (blocks_of_kind kind bs) other
+    ∙ none_later kind (suc k) (as_predecessor b) q bs on.1 (omega (arith, less, order))
 
 -- after an end block stands none
 none_after_end : (k : ℕ) (p q : Predecessor) (bs : List (List ℕ)) → scan_result k p bs ≡ Ok q → p.kind ≡ 3 → bs ≡ []
@@ -33,7 +35,8 @@ none_after_end k p q (b ∷ bs) done end =
     absurd (not_past_end p (kind_in b) (faultless k p b on.0).order end)
 
 -- header blocks, body blocks, end block
-pub in_order : (k : ℕ) (p q : Predecessor) (bs : List (List ℕ)) → scan_result k p bs ≡ Ok q → bs ≡ blocks_of_kind 1 bs ++ (blocks_of_kind 2 bs ++ blocks_of_kind 3 bs)
+pub in_order : (k : ℕ) (p q : Predecessor) (bs : List (List ℕ)) → scan_result k p bs ≡ Ok q
+    → bs ≡ blocks_of_kind 1 bs ++ (blocks_of_kind 2 bs ++ blocks_of_kind 3 bs)
 in_order k p q [] done = refl
 in_order k p q (b ∷ bs) done =
     let on = went_on (fault_of k p b) (scan_result (suc k) (as_predecessor b) bs) q done in
@@ -91,7 +94,8 @@ one_end k p q (b ∷ bs) done end other =
           let kind : kind_in b ≡ 3 = omega (arith, here, (form_parts b form).high) in
           let none : bs ≡ [] = none_after_end (suc k) (as_predecessor b) q bs on.1 kind in (
             b,
-            cond-true _ (b ∷ blocks_of_kind 3 bs) (blocks_of_kind 3 bs) (eq-eqb (kind_in b) 3 kind) ∙ ap (λ (xs : List (List ℕ)). b ∷ blocks_of_kind 3 xs) none,
+            cond-true _ (b ∷ blocks_of_kind 3 bs) (blocks_of_kind 3 bs) (eq-eqb (kind_in b) 3 kind)
+                ∙ ap (λ (xs : List (List ℕ)). b ∷ blocks_of_kind 3 xs) none,
             used_of_end b form kind,
           )
     ]

@@ -27,7 +27,8 @@ sized file good = record { whole = grind (arith, nat_tests); some = grind (arith
 -- ---- a block of good form
 
 -- what follows the prefix, past the data and up to the check
-fill_is : (b rest : List ℕ) (used : ℕ) → rest ≡ drop 6 b → used ≤ 502 → take (502 - used) (drop used rest) ≡ drop (6 + used) (take 508 b)
+fill_is : (b rest : List ℕ) (used : ℕ) → rest ≡ drop 6 b → used ≤ 502
+    → take (502 - used) (drop used rest) ≡ drop (6 + used) (take 508 b)
 fill_is b rest used follows within =
     let past : drop used rest ≡ drop (6 + used) b = ap (drop used) follows ∙ drop-drop used 6 b in
     let e : 6 + used + (502 - used) ≡ 508 = omega arith in
@@ -77,5 +78,6 @@ used_of_end b good end = grind (arith, nat_tests, (form_parts b good).used)
 -- ---- places
 
 -- where bytes are left, what is wrong is what is wrong with the next block
-pub wrong_block : (file : List ℕ) (k : ℕ) → is_size_good file ≡ true → 512 * k < length file → refusal_at file k ≡ fault_of k (predecessor_at file k) (block_at file k)
+pub wrong_block : (file : List ℕ) (k : ℕ) → is_size_good file ≡ true → 512 * k < length file
+    → refusal_at file k ≡ fault_of k (predecessor_at file k) (block_at file k)
 wrong_block file k good some = grind (arith, nat_tests, good, some)

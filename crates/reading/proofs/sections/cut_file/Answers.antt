@@ -22,7 +22,8 @@ is_end : (kind : ℕ) → eqb kind 3 ≡ true → kind ≡ 3
 is_end kind test = grind (arith, nat_tests)
 
 -- the bytes of a section, where its blocks are those of a kind
-of_kind : (kind : ℕ) (bs cs file_blocks : List (List ℕ)) → cs ≡ blocks_of_kind kind bs → bs ≡ file_blocks → concat (map data_in cs) ≡ data_of kind file_blocks
+of_kind : (kind : ℕ) (bs cs file_blocks : List (List ℕ)) → cs ≡ blocks_of_kind kind bs → bs ≡ file_blocks
+    → concat (map data_in cs) ≡ data_of kind file_blocks
 of_kind kind bs cs file_blocks cut all = ap (λ (xs : List (List ℕ)). concat (map data_in xs)) cut ∙ ap (data_of kind) all
 
 -- where the answer is that of the scan, a refusal is the first fault
@@ -95,7 +96,8 @@ returns c =
     record {
       answer =
           (λ i. Ok record { header = size 1 scan.header.bytes said.header.bytes i; body = size 2 scan.body.bytes said.body.bytes i })
-          ∙ sym (answer_end file (sym c.if-not-size_good.ensures) last (ap (scan_result 0 no_predecessor) (sym all) ∙ said.sound) test);
+          ∙ sym (answer_end file (sym c.if-not-size_good.ensures) last (ap (scan_result 0 no_predecessor) (sym all)
+          ∙ said.sound) test);
       refused = tt;
       sections = record {
         header = of_kind 1 bs c.split_at.result.0.now (blocks_of file) (c.split_at.ensures.front ∙ header_cut bs scan said end) all;
