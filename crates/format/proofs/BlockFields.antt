@@ -138,12 +138,14 @@ module _ (n : ℕ) (c : Content) where
     content_numbered = ap₂ content kind_numbered data_numbered
 
     pub form_numbered : is_form_good (block_bytes n c) ≡ true
-    form_numbered = grind (arith, nat_tests, fit.low, fit.high, reserve_numbered, kind_numbered, used_numbered, fit.used, fill_numbered)
+    form_numbered =
+        grind (arith, nat_tests, fit.low, fit.high, reserve_numbered, kind_numbered, used_numbered, fit.used, fill_numbered)
 
 -- ---- a block whose check, number and form are right
 
 -- what a block of good form says that it carries can be carried
-pub content_fits : (b : List ℕ) → length b ≡ 512 → is_form_good b ≡ true → (length (data_in b) ≡ used_length_in b) × Fit (content_of b)
+pub content_fits : (b : List ℕ) → length b ≡ 512 → is_form_good b ≡ true
+    → (length (data_in b) ≡ used_length_in b) × Fit (content_of b)
 content_fits b long good =
     let form : Form b = form_parts b good in
     let limit : used_length_in b ≤ 502 = used_limit (kind_in b) (used_length_in b) form.used in
@@ -176,19 +178,23 @@ module _ (x y kind reserve z w : ℕ) (rest : List ℕ) where
   abbrev six : List ℕ
   six = x ∷ (y ∷ (kind ∷ (reserve ∷ (z ∷ (w ∷ rest)))))
 
-  front_of_six : length six ≡ 512 → AreBytes six → is_form_good six ≡ true → take 508 six ≡ checked_bytes (number_in six) (content_of six)
+  front_of_six : length six ≡ 512 → AreBytes six → is_form_good six ≡ true
+      → take 508 six ≡ checked_bytes (number_in six) (content_of six)
   unfolding checked_bytes
   front_of_six long small good =
       let form : Form six = form_parts six good in
       let same : length (data_in six) ≡ used_length_in six = (content_fits six long good).0 in
-      let number : x ∷ (y ∷ []) ≡ digits 256 2 (number_in six) = sym (digits_numeral 256 (lit< tt) (x ∷ (y ∷ [])) (small_take 2 six small)) in
+      let number : x ∷ (y ∷ []) ≡ digits 256 2 (number_in six) =
+      sym (digits_numeral 256 (lit< tt) (x ∷ (y ∷ [])) (small_take 2 six small)) in
       let used : z ∷ (w ∷ []) ≡ digits 256 2 (length (data_in six)) =
-      sym (ap (digits 256 2) same ∙ digits_numeral 256 (lit< tt) (z ∷ (w ∷ [])) (small_take 2 (drop 4 six) (small_drop 4 six small))) in
+      sym (ap (digits 256 2) same
+      ∙ digits_numeral 256 (lit< tt) (z ∷ (w ∷ [])) (small_take 2 (drop 4 six) (small_drop 4 six small))) in
       let more : take 502 rest ≡ data_in six ++ fill_of (content_of six) = rest_again six long good in
       λ i. number i ++ (kind ∷ (form.reserve i ∷ (used i ++ more i)))
 
 -- the first 508 bytes of a block of good form are laid out from what it says
-pub front_again : (b : List ℕ) → length b ≡ 512 → AreBytes b → is_form_good b ≡ true → take 508 b ≡ checked_bytes (number_in b) (content_of b)
+pub front_again : (b : List ℕ) → length b ≡ 512 → AreBytes b → is_form_good b ≡ true
+    → take 508 b ≡ checked_bytes (number_in b) (content_of b)
 front_again b long small good =
     subst (λ (xs : List ℕ). length xs ≡ 512 → AreBytes xs → is_form_good xs ≡ true → take 508 xs ≡ checked_bytes (number_in xs) (content_of xs))
     (sym (heads 6 b (omega arith)))
@@ -196,7 +202,8 @@ front_again b long small good =
     long small good
 
 -- a block of good form with a right check is laid out from what it says
-pub block_again : (b : List ℕ) → length b ≡ 512 → AreBytes b → is_form_good b ≡ true → stored_check b ≡ check_of (take 508 b) → b ≡ block_bytes (number_in b) (content_of b)
+pub block_again : (b : List ℕ) → length b ≡ 512 → AreBytes b → is_form_good b ≡ true
+    → stored_check b ≡ check_of (take 508 b) → b ≡ block_bytes (number_in b) (content_of b)
 block_again b long small good right =
     let same : take 508 b ≡ checked_bytes (number_in b) (content_of b) = front_again b long small good in
     let four : length (drop 508 b) ≡ 4 = simp length-drop (omega arith) in

@@ -8,7 +8,7 @@ use Rattle.refusal.specs.declared.Refusal.{Refusal}
 use Rattle.refusal.specs.declared.Refusal.TheVariants.{WrongCheck, WrongNumber, WrongForm, WrongOrder}
 use Rattle.format.specs.Layout.{check_of}
 use Rattle.format.specs.Faults.{Predecessor, number_in, kind_in, filling_in, stored_check, is_all_zero, is_form_good, is_order_good, fault_of, block_at, predecessor_at}
-use Rattle.format.specs.Flaws.{IsFormed, MayFollow, Flaw, check, number, form, order, turn_of, IsFreeOf, IsBlockFlaw, HasNoFlaw, IsBlockFault}
+use Rattle.format.specs.Flaws.{IsFormed, MayFollow, Flaw, check, number, form, order, turn_of, IsFreeOf, IsBlockFlaw, HasNoFlaw}
 use Rattle.format.proofs.BlockFields.{Form, form_parts}
 
 -- ---- the tests
@@ -63,7 +63,8 @@ refusal_of form k = WrongForm k
 refusal_of order k = WrongOrder k
 
 -- what holds of each flaw whose turn comes before the n-th
-turns_below : (n : ℕ) (P : Flaw → Type 0) → (0 < n → P check) → (1 < n → P number) → (2 < n → P form) → (3 < n → P order) → (flaw : Flaw) → turn_of flaw < n → P flaw
+turns_below : (n : ℕ) (P : Flaw → Type 0) → (0 < n → P check) → (1 < n → P number) → (2 < n → P form)
+    → (3 < n → P order) → (flaw : Flaw) → turn_of flaw < n → P flaw
 turns_below n P a b c d check less = a less
 turns_below n P a b c d number less = b less
 turns_below n P a b c d form less = c less
@@ -112,7 +113,8 @@ module _ (test : Flaw → Bool) where
   first_failed k check f = rw (f.failed)
   first_failed k number f = rw (f.earlier check (omega arith), f.failed)
   first_failed k form f = rw (f.earlier check (omega arith), f.earlier number (omega arith), f.failed)
-  first_failed k order f = rw (f.earlier check (omega arith), f.earlier number (omega arith), f.earlier form (omega arith), f.failed)
+  first_failed k order f =
+      rw (f.earlier check (omega arith), f.earlier number (omega arith), f.earlier form (omega arith), f.failed)
 
 -- ---- the fault of block k
 
@@ -143,34 +145,3 @@ module _ (file : List ℕ) (k : ℕ) where
         failed = false_from_ne_true (is_free file k flaw) (λ e. f.there ((free_decides file k flaw).0 e));
         earlier = λ other less. (free_decides file k other).1 (f.earlier other less);
       })
-
-  named_flaw : (flaw : Flaw) → IsBlockFlaw file k flaw → IsBlockFault file k (refusal_of flaw k)
-  named_flaw check f = (refl, f)
-  named_flaw number f = (refl, f)
-  named_flaw form f = (refl, f)
-  named_flaw order f = (refl, f)
-
-  -- what the fault of a block tells, and what tells its fault
-  pub block_fault : (e : Refusal) → fault_at ≡ Some e → IsBlockFault file k e
-  block_fault e same =
-      elim sound_or_flawed [
-        | inl sound ↦ let none : fault_at ≡ None = block_passes sound in absurd (cc)
-        | inr f ↦
-            let some : fault_at ≡ Some (refusal_of f.0 k) = first_fault f.0 f.1 in
-            let why : refusal_of f.0 k ≡ e = cc in
-            subst (IsBlockFault file k) why (named_flaw f.0 f.1)
-      ]
-
-  pub block_sound : fault_at ≡ None → HasNoFlaw file k
-  block_sound none =
-      elim sound_or_flawed [
-        | inl sound ↦ sound
-        | inr f ↦ let some : fault_at ≡ Some (refusal_of f.0 k) = first_fault f.0 f.1 in absurd (cc)
-      ]
-
-  pub block_refuses : (e : Refusal) → IsBlockFault file k e → fault_at ≡ Some e
-  block_refuses (WrongCheck named) h = first_fault check h.1 ∙ ap (λ (j : ℕ). Some (WrongCheck j)) (sym h.0)
-  block_refuses (WrongNumber named) h = first_fault number h.1 ∙ ap (λ (j : ℕ). Some (WrongNumber j)) (sym h.0)
-  block_refuses (WrongForm named) h = first_fault form h.1 ∙ ap (λ (j : ℕ). Some (WrongForm j)) (sym h.0)
-  block_refuses (WrongOrder named) h = first_fault order h.1 ∙ ap (λ (j : ℕ). Some (WrongOrder j)) (sym h.0)
-  block_refuses other h = absurd h

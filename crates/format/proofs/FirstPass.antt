@@ -33,11 +33,13 @@ module _ (file : List ℕ) where
 
   pub too_long : PassesScan file → 65535 < length (header_in file) → first_pass file ≡ Err HeaderTooLong
   too_long pass long =
-      goes_on pass ∙ ap (λ (t : Bool). cond t (Ok (lengths_in file)) (Err HeaderTooLong)) (lt-leb (length (header_in file)) 65535 long)
+      goes_on pass
+      ∙ ap (λ (t : Bool). cond t (Ok (lengths_in file)) (Err HeaderTooLong)) (lt-leb (length (header_in file)) 65535 long)
 
   pub first_passes : PassesScan file → length (header_in file) ≤ 65535 → first_pass file ≡ Ok (lengths_in file)
   first_passes pass short =
-      goes_on pass ∙ ap (λ (t : Bool). cond t (Ok (lengths_in file)) (Err HeaderTooLong)) (le-leb (length (header_in file)) 65535 short)
+      goes_on pass
+      ∙ ap (λ (t : Bool). cond t (Ok (lengths_in file)) (Err HeaderTooLong)) (le-leb (length (header_in file)) 65535 short)
 
   -- no refusal of the first pass is that of a tag
   pub other_pass : (e : Refusal) → first_pass file ≡ Err e → eqb (refusal_number e) 8 ≡ false

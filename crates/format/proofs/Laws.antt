@@ -98,8 +98,10 @@ module _ (subkey : Block) (pad : Pad) (header body : List ℕ) where
         let cs : List Content = carried subkey pad header body in
         let few : 0 + length cs ≤ 65536 = omega (arith, length_contents header body (tag subkey pad header body)) in
         let scan = rows_scan 0 no_predecessor cs (carried_follow subkey pad header body) few in
-        let within : length (header_in file) ≤ header_limit = subst (λ (h : List ℕ). length h ≤ 65535) (sym (sealed_header subkey pad header body)) short in
-        let blocks : scan_result 0 no_predecessor (blocks_of file) ≡ Ok scan.0 = ap (scan_result 0 no_predecessor) (blocks_sealed subkey pad header body) ∙ scan.1 in
+        let within : length (header_in file) ≤ header_limit =
+        subst (λ (h : List ℕ). length h ≤ 65535) (sym (sealed_header subkey pad header body)) short in
+        let blocks : scan_result 0 no_predecessor (blocks_of file) ≡ Ok scan.0 =
+        ap (scan_result 0 no_predecessor) (blocks_sealed subkey pad header body) ∙ scan.1 in
         grind (arith, nat_tests, size_sealed, blocks, scan.2, within, tag_sealed)
 
 -- ---- an accepted file is sealed
@@ -110,7 +112,8 @@ record Accepted (subkey : Block) (pad : Pad) (file : List ℕ) (lens : Lengths) 
   pub tagged : numeral 256 (tag_in file) ≡ (tag_of subkey pad (header_in file) (body_in file)).0.bits
   pub read : lens ≡ lengths_in file
 
-accepted_parts : (subkey : Block) (pad : Pad) (file : List ℕ) (lens : Lengths) → verdict subkey pad file ≡ Ok lens → Accepted subkey pad file lens
+accepted_parts : (subkey : Block) (pad : Pad) (file : List ℕ) (lens : Lengths) → verdict subkey pad file ≡ Ok lens
+    → Accepted subkey pad file lens
 accepted_parts subkey pad file lens e =
     let tag : Block = (tag_of subkey pad (header_in file) (body_in file)).0 in
     let two = came (first_pass file) (λ _. tag_verdict subkey pad file) lens e in
@@ -132,7 +135,8 @@ accepted_sealed subkey pad file lens small e =
     let found = scan_numbered m 0 no_predecessor a.through.last file (omega arith) small a.through.scan a.through.end in
     let cs : List Content = map content_of (first_chunks 512 m file) in
     let ordered : Whole cs = in_order no_predecessor cs found.1 (omega arith) in
-    let part : (kind : ℕ) → part_of kind cs ≡ data_of kind (first_chunks 512 m file) = λ kind. sym (data_part kind (first_chunks 512 m file)) in
+    let part : (kind : ℕ) → part_of kind cs ≡ data_of kind (first_chunks 512 m file) =
+    λ kind. sym (data_part kind (first_chunks 512 m file)) in
     let sixteen : length (tag_in file) ≡ 16 = sym (ap length (part 3)) ∙ ordered.1 in
     let last : tag_in file ≡ bytes_of (tag_of subkey pad (header_in file) (body_in file)).0 =
     sym (digits_numeral 256 (lit< tt) (tag_in file) (read_small 3 file small)) ∙ ap₂ (digits 256) sixteen a.tagged in
@@ -141,7 +145,8 @@ accepted_sealed subkey pad file lens small e =
 
 -- ---- both directions
 
-pub reopens : (subkey : Block) (pad : Pad) (header body : List ℕ) → length header ≤ 65535 → blocks_for (length header) (length body) ≤ 65536 → Reopens subkey pad header body
+pub reopens : (subkey : Block) (pad : Pad) (header body : List ℕ) → length header ≤ 65535
+    → blocks_for (length header) (length body) ≤ 65536 → Reopens subkey pad header body
 reopens subkey pad header body short count = record {
   accepted = sealed_accepted subkey pad header body short count;
   header_again = sealed_header subkey pad header body;
@@ -150,7 +155,8 @@ reopens subkey pad header body short count = record {
 
 module _ (subkey : Block) (pad : Pad) (file : List ℕ) (small : AreBytes file) where
   -- an accepted file is what the writer makes
-  pub accepted_seal : (lens : Lengths) → verdict subkey pad file ≡ Ok lens → IsSealOf subkey pad (header_in file) (body_in file) file
+  pub accepted_seal : (lens : Lengths) → verdict subkey pad file ≡ Ok lens
+      → IsSealOf subkey pad (header_in file) (body_in file) file
   accepted_seal lens e =
       let through : Passed file = (accepted_parts subkey pad file lens e).through in
       let made : file ≡ sealed_file subkey pad (header_in file) (body_in file) = accepted_sealed subkey pad file lens small e in
@@ -159,7 +165,8 @@ module _ (subkey : Block) (pad : Pad) (file : List ℕ) (small : AreBytes file) 
       record { short = through.short; few = omega (arith, long); made = made }
 
   -- what the writer makes is accepted
-  pub seal_accepted : (header body : List ℕ) → IsSealOf subkey pad header body file → verdict subkey pad file ≡ Ok (lengths_of header body)
+  pub seal_accepted : (header body : List ℕ) → IsSealOf subkey pad header body file
+      → verdict subkey pad file ≡ Ok (lengths_of header body)
   seal_accepted header body seal = ap (verdict subkey pad) seal.made ∙ sealed_accepted subkey pad header body seal.short seal.few
 
   pub exact : Exact subkey pad file (verdict subkey pad file)

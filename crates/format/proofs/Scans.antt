@@ -38,7 +38,8 @@ went_on None r x e = (refl, e)
 went_on (Some y) r x e = let z : ◌≡◌ {A = ℕ} 0 1 = cc in absurd (omega arith)
 
 -- the bytes are laid out from the contents that the blocks say, and these are in order
-pub scan_numbered : (m k : ℕ) (p last : Predecessor) (file : List ℕ) → length file ≡ 512 * m → AreBytes file → scan_result k p (first_chunks 512 m file) ≡ Ok last → last.kind ≡ 3
+pub scan_numbered : (m k : ℕ) (p last : Predecessor) (file : List ℕ) → length file ≡ 512 * m → AreBytes file
+    → scan_result k p (first_chunks 512 m file) ≡ Ok last → last.kind ≡ 3
     → (file ≡ numbered_blocks k (map content_of (first_chunks 512 m file))) × Follows p (map content_of (first_chunks 512 m file))
 scan_numbered zero k p last file long small e end =
     let same : p ≡ last = cc in
@@ -53,7 +54,8 @@ scan_numbered (suc m) k p last file long small e end =
     let fits = content_fits b wide good.form in
     let rest = scan_numbered m (suc k) (as_predecessor b) last more left (small_drop 512 file small) on.1 end in
     let here : b ≡ block_bytes k (content_of b) =
-    block_again b wide (small_take 512 file small) good.form good.check ∙ ap (λ (n : ℕ). block_bytes n (content_of b)) good.number in
+    block_again b wide (small_take 512 file small) good.form good.check
+    ∙ ap (λ (n : ℕ). block_bytes n (content_of b)) good.number in
     let before : as_predecessor b ≡ shown (content_of b) = ap (λ (u : ℕ). record { kind = kind_in b; used = u }) (sym fits.0) in (
       sym (take-append-drop 512 file) ∙ ap₂ (λ (xs ys : List ℕ). xs ++ ys) here rest.0,
       record {
@@ -70,7 +72,8 @@ abbrev pub block_rows : ℕ → List Content → List (List ℕ)
 block_rows k [] = []
 block_rows k (c ∷ cs) = block_bytes k c ∷ block_rows (suc k) cs
 
-pub length_numbered_all : (k : ℕ) (p : Predecessor) (cs : List Content) → Follows p cs → length (numbered_blocks k cs) ≡ 512 * length cs
+pub length_numbered_all : (k : ℕ) (p : Predecessor) (cs : List Content) → Follows p cs
+    → length (numbered_blocks k cs) ≡ 512 * length cs
 length_numbered_all k p [] f = refl
 length_numbered_all k p (c ∷ cs) f =
     let here : length (block_bytes k c) ≡ 512 = length_numbered k c f.fit in
@@ -78,13 +81,15 @@ length_numbered_all k p (c ∷ cs) f =
     length-append (block_bytes k c) (numbered_blocks (suc k) cs) ∙ omega arith
 
 -- cut at 512 bytes, they are the blocks again
-pub rows_numbered : (k : ℕ) (p : Predecessor) (cs : List Content) → Follows p cs → first_chunks 512 (length cs) (numbered_blocks k cs) ≡ block_rows k cs
+pub rows_numbered : (k : ℕ) (p : Predecessor) (cs : List Content) → Follows p cs
+    → first_chunks 512 (length cs) (numbered_blocks k cs) ≡ block_rows k cs
 rows_numbered k p [] f = refl
 rows_numbered k p (c ∷ cs) f =
     let wide : length (block_bytes k c) ≡ 512 = length_numbered k c f.fit in
     ap₂ (λ (b : List ℕ) (bs : List (List ℕ)). b ∷ bs)
     (take_at (block_bytes k c) (numbered_blocks (suc k) cs) 512 wide)
-    (ap (first_chunks 512 (length cs)) (drop_at (block_bytes k c) (numbered_blocks (suc k) cs) 512 wide) ∙ rows_numbered (suc k) (shown c) cs f.rest)
+    (ap (first_chunks 512 (length cs)) (drop_at (block_bytes k c) (numbered_blocks (suc k) cs) 512 wide)
+    ∙ rows_numbered (suc k) (shown c) cs f.rest)
 
 -- they say the contents that they carry
 pub rows_contents : (k : ℕ) (p : Predecessor) (cs : List Content) → Follows p cs → map content_of (block_rows k cs) ≡ cs
@@ -93,9 +98,11 @@ rows_contents k p (c ∷ cs) f =
     ap₂ (λ (d : Content) (ds : List Content). d ∷ ds) (content_numbered k c f.fit) (rows_contents (suc k) (shown c) cs f.rest)
 
 -- a block laid out in its place has no fault
-numbered_no_fault : (k : ℕ) (p : Predecessor) (c : Content) → Fit c → is_order_good p c.kind ≡ true → k < 65536 → fault_of k p (block_bytes k c) ≡ None
+numbered_no_fault : (k : ℕ) (p : Predecessor) (c : Content) → Fit c → is_order_good p c.kind ≡ true → k < 65536
+    → fault_of k p (block_bytes k c) ≡ None
 numbered_no_fault k p c fit order below =
-    let right : stored_check (block_bytes k c) ≡ check_of (take 508 (block_bytes k c)) = check_numbered k c fit ∙ sym (ap check_of (front_numbered k c fit)) in
+    let right : stored_check (block_bytes k c) ≡ check_of (take 508 (block_bytes k c)) =
+    check_numbered k c fit ∙ sym (ap check_of (front_numbered k c fit)) in
     grind (arith, nat_tests, right, number_numbered k c below, form_numbered k c fit, kind_numbered k c, order)
 
 -- a scan of contents in order meets no fault and ends at an end block
@@ -105,7 +112,8 @@ rows_scan k p [] f limit = (p, refl, f)
 rows_scan k p (c ∷ cs) f limit =
     let rest = rows_scan (suc k) (shown c) cs f.rest (omega arith) in
     let none : fault_of k p (block_bytes k c) ≡ None = numbered_no_fault k p c f.fit f.order (omega arith) in
-    let before : as_predecessor (block_bytes k c) ≡ shown c = λ i. record { kind = kind_numbered k c i; used = used_numbered k c f.fit i } in (
+    let before : as_predecessor (block_bytes k c) ≡ shown c =
+    λ i. record { kind = kind_numbered k c i; used = used_numbered k c f.fit i } in (
       rest.0,
       (λ i. refusal_or (none i) (scan_result (suc k) (before i) (block_rows (suc k) cs))) ∙ rest.1,
       rest.2,
@@ -114,9 +122,11 @@ rows_scan k p (c ∷ cs) f limit =
 -- ---- the data of a kind
 
 -- one block more
-pub data_cons : (kind : ℕ) (b : List ℕ) (bs : List (List ℕ)) → data_of kind (b ∷ bs) ≡ cond (eqb (kind_in b) kind) (data_in b ++ data_of kind bs) (data_of kind bs)
+pub data_cons : (kind : ℕ) (b : List ℕ) (bs : List (List ℕ))
+    → data_of kind (b ∷ bs) ≡ cond (eqb (kind_in b) kind) (data_in b ++ data_of kind bs) (data_of kind bs)
 data_cons kind b bs = by_kind (eqb (kind_in b) kind) where
-  by_kind : (is : Bool) → concat (map data_in (cond is (b ∷ blocks_of_kind kind bs) (blocks_of_kind kind bs))) ≡ cond is (data_in b ++ data_of kind bs) (data_of kind bs)
+  by_kind : (is : Bool)
+      → concat (map data_in (cond is (b ∷ blocks_of_kind kind bs) (blocks_of_kind kind bs))) ≡ cond is (data_in b ++ data_of kind bs) (data_of kind bs)
   by_kind true = refl
   by_kind false = refl
 

@@ -65,7 +65,8 @@ none_after p [] f end = refl
 none_after p (c ∷ cs) f end = absurd (not_past_end p c.kind f.order end)
 
 -- a content comes first among the pieces of its kind
-first_piece : (c : Content) (cs : List Content) → Fit c → Follows (shown c) cs → data_pieces (c.bytes ++ part_of c.kind cs) ≡ c.bytes ∷ data_pieces (part_of c.kind cs)
+first_piece : (c : Content) (cs : List Content) → Fit c → Follows (shown c) cs
+    → data_pieces (c.bytes ++ part_of c.kind cs) ≡ c.bytes ∷ data_pieces (part_of c.kind cs)
 first_piece c cs fit f =
     let some : 1 ≤ length c.bytes = used_some c.kind (length c.bytes) fit.used in
     let limit : length c.bytes ≤ 502 = used_limit c.kind (length c.bytes) fit.used in
@@ -80,7 +81,8 @@ abbrev pub Whole : List Content → Type 0
 Whole cs = (cs ≡ file_contents (part_of 1 cs) (part_of 2 cs) (part_of 3 cs)) × (length (part_of 3 cs) ≡ 16)
 
 -- with no header, the body comes first
-contents_body_first : (header body tag : List ℕ) → length header ≡ 0 → file_contents header body tag ≡ map (content 2) (data_pieces body) ++ (content 3 tag ∷ [])
+contents_body_first : (header body tag : List ℕ) → length header ≡ 0
+    → file_contents header body tag ≡ map (content 2) (data_pieces body) ++ (content 3 tag ∷ [])
 contents_body_first header body tag none =
     ap (λ (ps : List (List ℕ)). map (content 1) ps ++ (map (content 2) (data_pieces body) ++ (content 3 tag ∷ []))) (pieces_none header none)
 
@@ -104,7 +106,8 @@ whole_kinds (suc zero) bytes cs fit f more =
 whole_kinds (suc (suc zero)) bytes cs fit f more =
     let rest : Whole cs = more (omega arith) in
     let none : length (part_of 1 cs) ≡ 0 = ap length (none_later 1 (shown (content 2 bytes)) cs f (omega arith)) in (
-      ap (λ (ds : List Content). content 2 bytes ∷ ds) (rest.0 ∙ contents_body_first (part_of 1 cs) (part_of 2 cs) (part_of 3 cs) none)
+      ap (λ (ds : List Content). content 2 bytes ∷ ds) (rest.0
+          ∙ contents_body_first (part_of 1 cs) (part_of 2 cs) (part_of 3 cs) none)
           ∙ sym (contents_body_first (part_of 1 cs) (bytes ++ part_of 2 cs) (part_of 3 cs) none
           ∙ ap (λ (ps : List (List ℕ)). map (content 2) ps ++ (content 3 (part_of 3 cs) ∷ []))
           (first_piece (content 2 bytes) cs fit f)),
@@ -151,7 +154,8 @@ module _ (kind : ℕ) (low : 1 ≤ kind) (high : kind ≤ 2) (others : List Cont
       record {
         fit = record { low = low; high = omega arith; used = used_good (length (take 502 part)) (omega arith) (omega arith) };
         order = in_place p before (full some);
-        rest = cut_follows n (drop 502 part) (omega arith) (shown (content kind (take 502 part))) (omega arith) (λ more same. omega arith);
+        rest =
+            cut_follows n (drop 502 part) (omega arith) (shown (content kind (take 502 part))) (omega arith) (λ more same. omega arith);
       }
 
   -- after a lower kind, the pieces of a whole part
@@ -170,12 +174,14 @@ contents_follow header body tag sixteen =
 -- ---- the header, the body and the tag, read out of their contents
 
 -- the data of a kind among pieces of that kind, and among pieces of another
-part_same : (kind : ℕ) (ps : List (List ℕ)) (cs : List Content) → part_of kind (map (content kind) ps ++ cs) ≡ concat ps ++ part_of kind cs
+part_same : (kind : ℕ) (ps : List (List ℕ)) (cs : List Content)
+    → part_of kind (map (content kind) ps ++ cs) ≡ concat ps ++ part_of kind cs
 part_same kind [] cs = refl
 part_same kind (p ∷ ps) cs =
     grind (arith, nat_tests, part_same kind ps cs, append_assoc p (concat ps) (part_of kind cs))
 
-part_other : (kind other : ℕ) → eqb other kind ≡ false → (ps : List (List ℕ)) (cs : List Content) → part_of kind (map (content other) ps ++ cs) ≡ part_of kind cs
+part_other : (kind other : ℕ) → eqb other kind ≡ false → (ps : List (List ℕ)) (cs : List Content)
+    → part_of kind (map (content other) ps ++ cs) ≡ part_of kind cs
 part_other kind other apart [] cs = refl
 part_other kind other apart (p ∷ ps) cs =
     grind (arith, nat_tests, part_other kind other apart ps cs)

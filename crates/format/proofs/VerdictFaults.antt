@@ -30,7 +30,8 @@ module _ (subkey : Block) (pad : Pad) (file : List ℕ) where
   stopped : (e : Refusal) → first_pass file ≡ Err e → verdict subkey pad file ≡ Err e
   stopped e stop = ap (λ (r : Result Lengths Refusal). and_then r (λ _. tag_verdict subkey pad file)) stop
 
-  tag_looked_at : PassesScan file → length (header_in file) ≤ 65535 → (t : Bool) → is_tag_same ≡ t → verdict subkey pad file ≡ cond t (Ok (lengths_in file)) (Err TagDiffers)
+  tag_looked_at : PassesScan file → length (header_in file) ≤ 65535 → (t : Bool) → is_tag_same ≡ t
+      → verdict subkey pad file ≡ cond t (Ok (lengths_in file)) (Err TagDiffers)
   tag_looked_at pass short t same =
       ap (λ (r : Result Lengths Refusal). and_then r (λ _. tag_verdict subkey pad file)) (first_passes file pass short)
       ∙ ap (λ (u : Bool). cond u (Ok (lengths_in file)) (Err TagDiffers)) same
@@ -40,7 +41,9 @@ module _ (subkey : Block) (pad : Pad) (file : List ℕ) where
   HoldsTag = tag_in file ≡ bytes_of tag
 
   same_tag : HoldsTag → is_tag_same ≡ true
-  same_tag holds = eq-eqb (numeral 256 (tag_in file)) tag.bits (ap (numeral 256) holds ∙ numeral_digits 256 (lit< tt) 16 tag.bits ∙ mod-eq_of_lt tag.fits)
+  same_tag holds =
+      eq-eqb (numeral 256 (tag_in file)) tag.bits (ap (numeral 256) holds ∙ numeral_digits 256 (lit< tt) 16 tag.bits
+      ∙ mod-eq_of_lt tag.fits)
 
   of_scan : (e : Refusal) → IsScanFault file e → IsFault subkey pad file e
   of_scan HeaderTooLong h = absurd h
@@ -87,7 +90,8 @@ module _ (subkey : Block) (pad : Pad) (file : List ℕ) where
     one_fault e f this that = one_reason (verdict_refuses e this) (verdict_refuses f that)
 
     -- Exact and IsFault together leave one answer
-    pub fixed : (answer : Result Lengths Refusal) → Exact subkey pad file answer → IfErr answer (IsFault subkey pad file) → answer ≡ verdict subkey pad file
+    pub fixed : (answer : Result Lengths Refusal) → Exact subkey pad file answer
+        → IfErr answer (IsFault subkey pad file) → answer ≡ verdict subkey pad file
     fixed (Ok lens) law known =
         ap (λ (l : Lengths). Ok l) law.lengths
         ∙ sym (seal_accepted subkey pad file small (header_in file) (body_in file) (law.exactly.0 refl))

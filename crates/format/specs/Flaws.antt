@@ -51,7 +51,8 @@ turn_of order = 3
 
 -- block k of a file has not this flaw
 abbrev pub IsFreeOf : List ℕ → ℕ → Flaw → Type 0
-IsFreeOf file k check = stored_check (block_at file k) ≡ check_of (take check_place (block_at file k))
+IsFreeOf file k check =
+    stored_check (block_at file k) ≡ check_of (take check_place (block_at file k))
 IsFreeOf file k number = number_in (block_at file k) ≡ k
 IsFreeOf file k form = IsFormed (block_at file k)
 IsFreeOf file k order = MayFollow (predecessor_at file k) (kind_in (block_at file k))
@@ -68,14 +69,6 @@ pub record IsBlockFlaw (file : List ℕ) (k : ℕ) (flaw : Flaw) : Type 0 where
 abbrev pub HasNoFlaw : List ℕ → ℕ → Type 0
 HasNoFlaw file k = (flaw : Flaw) → IsFreeOf file k flaw
 
--- why block k is refused, and which block the refusal names
-abbrev pub IsBlockFault : List ℕ → ℕ → Refusal → Type 0
-IsBlockFault file k (WrongCheck named) = (named ≡ k) × IsBlockFlaw file k check
-IsBlockFault file k (WrongNumber named) = (named ≡ k) × IsBlockFlaw file k number
-IsBlockFault file k (WrongForm named) = (named ≡ k) × IsBlockFlaw file k form
-IsBlockFault file k (WrongOrder named) = (named ≡ k) × IsBlockFlaw file k order
-IsBlockFault file k other = ⊥
-
 -- ---- the blocks of a file
 
 abbrev pub block_count : List ℕ → ℕ
@@ -91,8 +84,9 @@ pub record HasFileSize (file : List ℕ) : Type 0 where
 abbrev pub IsFlawless : List ℕ → Type 0
 IsFlawless file = (k : ℕ) → k < block_count file → HasNoFlaw file k
 
--- Of all flaws of a file's blocks, the one that is met first.
+-- The size of a file is right, and of all flaws of its blocks this one is met first.
 pub record IsFirstFlaw (file : List ℕ) (k : ℕ) (flaw : Flaw) : Type 0 where
+  pub size : HasFileSize file
   pub within : k < block_count file
   pub here : IsBlockFlaw file k flaw
   pub before : (j : ℕ) → j < k → HasNoFlaw file j
@@ -104,20 +98,21 @@ last_kind file = kind_in (block_at file (block_count file - 1))
 abbrev pub EndsInEnd : List ℕ → Type 0
 EndsInEnd file = last_kind file ≡ 3
 
--- All blocks are right, and the last of them is no end block.
-pub record LacksEnd (file : List ℕ) : Type 0 where
+-- All blocks are right, so many of them, and the last is no end block.
+pub record LacksEnd (file : List ℕ) (count : ℕ) : Type 0 where
   pub size : HasFileSize file
   pub blocks : IsFlawless file
   pub no_end : ¬ EndsInEnd file
+  pub counted : count ≡ block_count file
 
 -- why the scan refuses a file: for its size, else for its first flaw, else for want of an end
 abbrev pub IsScanFault : List ℕ → Refusal → Type 0
 IsScanFault file FileSize = ¬ HasFileSize file
-IsScanFault file (WrongCheck k) = HasFileSize file × IsFirstFlaw file k check
-IsScanFault file (WrongNumber k) = HasFileSize file × IsFirstFlaw file k number
-IsScanFault file (WrongForm k) = HasFileSize file × IsFirstFlaw file k form
-IsScanFault file (WrongOrder k) = HasFileSize file × IsFirstFlaw file k order
-IsScanFault file (NoEnd n) = LacksEnd file × (n ≡ block_count file)
+IsScanFault file (WrongCheck k) = IsFirstFlaw file k check
+IsScanFault file (WrongNumber k) = IsFirstFlaw file k number
+IsScanFault file (WrongForm k) = IsFirstFlaw file k form
+IsScanFault file (WrongOrder k) = IsFirstFlaw file k order
+IsScanFault file (NoEnd n) = LacksEnd file n
 IsScanFault file other = ⊥
 
 -- A file in which the scan finds no fault.

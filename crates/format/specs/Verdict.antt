@@ -60,7 +60,8 @@ pub record IsSealOf (subkey : Block) (pad : Pad) (header body file : List ℕ) :
   pub made : file ≡ sealed_file subkey pad header body
 
 -- An answer that accepts exactly the files that the writer makes.
-pub record Exact (subkey : Block) (pad : Pad) (file : List ℕ) (answer : Result Lengths Refusal) : Type 0 where
+pub record Exact (subkey : Block) (pad : Pad) (file : List ℕ)
+    (answer : Result Lengths Refusal) : Type 0 where
   -- accepted exactly where the writer makes the file from the header and body read out of it
   pub exactly : IsOk answer ↔ IsSealOf subkey pad (header_in file) (body_in file) file
   -- and answered with the lengths of these two
@@ -72,6 +73,7 @@ pub record Exact (subkey : Block) (pad : Pad) (file : List ℕ) (answer : Result
 
 -- What a header and a body are sealed into is accepted, and both are read out of it again.
 pub record Reopens (subkey : Block) (pad : Pad) (header body : List ℕ) : Type 0 where
-  pub accepted : verdict subkey pad (sealed_file subkey pad header body) ≡ Ok (lengths_of header body)
+  pub accepted :
+      verdict subkey pad (sealed_file subkey pad header body) ≡ Ok (lengths_of header body)
   pub header_again : header_in (sealed_file subkey pad header body) ≡ header
   pub body_again : body_in (sealed_file subkey pad header body) ≡ body

@@ -10,12 +10,14 @@ unfolding numeral
 two_bytes bs long = ap (λ (xs : List ℕ). numeral 256 (take 2 xs)) (heads 2 bs long) ∙ omega arith
 
 -- two bytes further on
-pub two_bytes_at : (k : ℕ) (bs : List ℕ) → k + 2 ≤ length bs → numeral 256 (take 2 (drop k bs)) ≡ get_or bs (k + 0) 0 * 256 + get_or bs (k + 1) 0
+pub two_bytes_at : (k : ℕ) (bs : List ℕ) → k + 2 ≤ length bs
+    → numeral 256 (take 2 (drop k bs)) ≡ get_or bs (k + 0) 0 * 256 + get_or bs (k + 1) 0
 two_bytes_at k bs long =
     let left : 2 ≤ length (drop k bs) = omega (arith, length-drop k bs) in
     two_bytes (drop k bs) left ∙ (λ i. get_or-drop k bs 0 0 i * 256 + get_or-drop k bs 1 0 i)
 
-four_bytes : (bs : List ℕ) → length bs ≡ 4 → numeral 256 bs ≡ get_or bs 0 0 * 16777216 + get_or bs 1 0 * 65536 + get_or bs 2 0 * 256 + get_or bs 3 0
+four_bytes : (bs : List ℕ) → length bs ≡ 4
+    → numeral 256 bs ≡ get_or bs 0 0 * 16777216 + get_or bs 1 0 * 65536 + get_or bs 2 0 * 256 + get_or bs 3 0
 unfolding numeral
 four_bytes bs long = ap (numeral 256) (spells bs ∙ ap (λ (n : ℕ). spelled n (λ k. get_or bs k 0)) long) ∙ omega arith
 

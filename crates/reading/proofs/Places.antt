@@ -27,7 +27,8 @@ sized file good = record { whole = grind (arith, nat_tests); some = grind (arith
 -- ---- a block of good form
 
 -- what follows the prefix, past the data and up to the check
-fill_is : (b rest : List ℕ) (used : ℕ) → rest ≡ drop 6 b → used ≤ 502 → take (502 - used) (drop used rest) ≡ drop (6 + used) (take 508 b)
+fill_is : (b rest : List ℕ) (used : ℕ) → rest ≡ drop 6 b → used ≤ 502
+    → take (502 - used) (drop used rest) ≡ drop (6 + used) (take 508 b)
 fill_is b rest used follows within =
     let past : drop used rest ≡ drop (6 + used) b = ap (drop used) follows ∙ drop-drop used 6 b in
     let e : 6 + used + (502 - used) ≡ 508 = omega arith in
@@ -70,17 +71,13 @@ module _ (b : List ℕ) (k : BlockKind) (p : Prefix) (kind : kind_number k ≡ p
   pub good_form : p.reserve ≡ 0 → is_used_fit (kind_number k) p.used ≡ true → is_all_zero slice ≡ true → is_form_good b ≡ true
   good_form none fits good = grind (arith, nat_tests, form_is, fill_read fits)
 
--- nothing stands after an end block
-pub no_fault_order : (k : ℕ) (p : Predecessor) (b : List ℕ) → fault_of k p b ≡ None → eqb p.kind 3 ≡ false
-no_fault_order k p b none = ne_eqb p.kind 3 (not_past_end p (kind_in b) (faultless k p b none).order)
-
+-- an end block of good form has 16 bytes of data
 pub used_of_end : (b : List ℕ) → is_form_good b ≡ true → kind_in b ≡ 3 → used_length_in b ≡ 16
 used_of_end b good end = grind (arith, nat_tests, (form_parts b good).used)
 
 -- ---- places
 
-pub block_size : (file : List ℕ) (k : ℕ) → 512 * suc k ≤ length file → length (block_at file k) ≡ 512
-block_size file k within = length-take-le 512 (drop (512 * k) file) (omega (arith, length-drop (512 * k) file))
-
-pub wrong_block : (file : List ℕ) (k : ℕ) → is_size_good file ≡ true → 512 * k < length file → refusal_at file k ≡ fault_of k (predecessor_at file k) (block_at file k)
+-- where bytes are left, what is wrong is what is wrong with the next block
+pub wrong_block : (file : List ℕ) (k : ℕ) → is_size_good file ≡ true → 512 * k < length file
+    → refusal_at file k ≡ fault_of k (predecessor_at file k) (block_at file k)
 wrong_block file k good some = grind (arith, nat_tests, good, some)

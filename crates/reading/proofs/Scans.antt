@@ -14,7 +14,8 @@ use Rattle.reading.proofs.Places.{sized}
 
 -- ---- rows
 
-pub rows_split : (n k : ℕ) (file : List ℕ) → first_chunks 512 (n + k) file ≡ first_chunks 512 n file ++ first_chunks 512 k (drop (512 * n) file)
+pub rows_split : (n k : ℕ) (file : List ℕ)
+    → first_chunks 512 (n + k) file ≡ first_chunks 512 n file ++ first_chunks 512 k (drop (512 * n) file)
 rows_split zero k file = ap (λ (j : ℕ). first_chunks 512 j file) (zero-add k)
 rows_split (suc n) k file =
     let e : suc n + k ≡ suc (n + k) = omega arith in
@@ -22,7 +23,8 @@ rows_split (suc n) k file =
     ap (λ (j : ℕ). first_chunks 512 j file) e
     ∙ ap (λ rows. take 512 file ∷ rows)
     (rows_split n k (drop 512 file)
-    ∙ ap (λ (xs : List ℕ). first_chunks 512 n (drop 512 file) ++ first_chunks 512 k xs) (drop-drop (512 * n) 512 file ∙ ap (λ (j : ℕ). drop j file) further))
+    ∙ ap (λ (xs : List ℕ). first_chunks 512 n (drop 512 file) ++ first_chunks 512 k xs) (drop-drop (512 * n) 512 file
+    ∙ ap (λ (j : ℕ). drop j file) further))
 
 -- the chunks of a file are its blocks
 pub chunks_are : (file : List ℕ) (bs : List (List ℕ)) → bs ≡ first_chunks 512 (length file / 512) file → bs ≡ blocks_of file
@@ -45,10 +47,12 @@ data_append kind cs bs =
     ∙ concat-append (map data_in (blocks_of_kind kind cs)) (map data_in (blocks_of_kind kind bs))
 
 -- one block more
-pub data_on : (kind k : ℕ) (bs : List (List ℕ)) (d : List ℕ) → k < length bs → data_of kind (take (k + 1) bs) ≡ data_of kind (take k bs) ++ data_of_kind kind (get_or bs k d)
+pub data_on : (kind k : ℕ) (bs : List (List ℕ)) (d : List ℕ) → k < length bs
+    → data_of kind (take (k + 1) bs) ≡ data_of kind (take k bs) ++ data_of_kind kind (get_or bs k d)
 data_on kind k bs d less =
     ap (data_of kind) (take_more bs k d less) ∙ data_append kind (take k bs) (get_or bs k d ∷ [])
-    ∙ ap (λ (xs : List ℕ). data_of kind (take k bs) ++ xs) (data_cons kind (get_or bs k d) [] ∙ append-nil (data_of_kind kind (get_or bs k d)))
+    ∙ ap (λ (xs : List ℕ). data_of kind (take k bs) ++ xs) (data_cons kind (get_or bs k d) []
+    ∙ append-nil (data_of_kind kind (get_or bs k d)))
 
 -- what is read by block k is part of what is read in the end
 pub data_upto : (kind k : ℕ) (bs : List (List ℕ)) → length (data_of kind (take k bs)) ≤ length (data_of kind bs)
@@ -58,14 +62,18 @@ data_upto kind k bs =
     ∙ ap length (data_append kind (take k bs) (drop k bs)) ∙ length-append (data_of kind (take k bs)) (data_of kind (drop k bs)) in
     omega (arith, both)
 
-pub data_more : (kind k : ℕ) (file : List ℕ) → data_of kind (first_chunks 512 (k + 1) file) ≡ data_of kind (first_chunks 512 k file) ++ data_of_kind kind (block_at file k)
+pub data_more : (kind k : ℕ) (file : List ℕ)
+    → data_of kind (first_chunks 512 (k + 1) file) ≡ data_of kind (first_chunks 512 k file) ++ data_of_kind kind (block_at file k)
 data_more kind k file =
     ap (data_of kind) (rows_split k 1 file) ∙ data_append kind (first_chunks 512 k file) (block_at file k ∷ [])
-    ∙ ap (λ (xs : List ℕ). data_of kind (first_chunks 512 k file) ++ xs) (data_cons kind (block_at file k) [] ∙ append-nil (data_of_kind kind (block_at file k)))
+    ∙ ap (λ (xs : List ℕ). data_of kind (first_chunks 512 k file) ++ xs) (data_cons kind (block_at file k) []
+    ∙ append-nil (data_of_kind kind (block_at file k)))
 
-pub data_length : (kind : ℕ) (b : List ℕ) → length b ≡ 512 → used_length_in b ≤ 502 → length (data_of_kind kind b) ≡ cond (eqb (kind_in b) kind) (used_length_in b) 0
+pub data_length : (kind : ℕ) (b : List ℕ) → length b ≡ 512 → used_length_in b ≤ 502
+    → length (data_of_kind kind b) ≡ cond (eqb (kind_in b) kind) (used_length_in b) 0
 data_length kind b whole within =
-    let long : length (data_in b) ≡ used_length_in b = length-take-le (used_length_in b) (drop 6 b) (omega (arith, length-drop 6 b, whole, within)) in
+    let long : length (data_in b) ≡ used_length_in b =
+    length-take-le (used_length_in b) (drop 6 b) (omega (arith, length-drop 6 b, whole, within)) in
     grind (arith, nat_tests, long)
 
 data_short : (kind : ℕ) (xs : List ℕ) → length (data_of_kind kind (take 512 xs)) ≤ 512
@@ -75,7 +83,9 @@ data_short kind xs =
 pub data_within : (kind n : ℕ) (file : List ℕ) → length (data_of kind (first_chunks 512 n file)) ≤ 512 * n
 data_within kind zero file = omega arith
 data_within kind (suc n) file =
-    let both = ap length (data_cons kind (take 512 file) (first_chunks 512 n (drop 512 file))) ∙ length-append (data_of_kind kind (take 512 file)) (data_of kind (first_chunks 512 n (drop 512 file))) in
+    let both =
+    ap length (data_cons kind (take 512 file) (first_chunks 512 n (drop 512 file)))
+    ∙ length-append (data_of_kind kind (take 512 file)) (data_of kind (first_chunks 512 n (drop 512 file))) in
     omega (arith, both, data_short kind file, data_within kind n (drop 512 file))
 
 -- blocks of 512 bytes
@@ -87,7 +97,8 @@ pub data_room : (kind : ℕ) (bs : List (List ℕ)) → AllWhole bs → length (
 data_room kind [] whole = omega arith
 data_room kind (b ∷ bs) whole =
     let size : length b ≡ 512 = whole 0 (omega arith) in
-    let here : length (data_of_kind kind b) ≤ 512 = subst (λ (c : List ℕ). length (data_of_kind kind c) ≤ 512) (take_all 512 b (omega (arith, size))) (data_short kind b) in
+    let here : length (data_of_kind kind b) ≤ 512 =
+    subst (λ (c : List ℕ). length (data_of_kind kind c) ≤ 512) (take_all 512 b (omega (arith, size))) (data_short kind b) in
     let both = ap length (data_cons kind b bs) ∙ length-append (data_of_kind kind b) (data_of kind bs) in
     omega (arith, both, here, data_room kind bs (λ k less. whole (suc k) (omega (arith, less))))
 
@@ -101,7 +112,8 @@ unfolding blocks_of
 rows_at_end k file end = ap (λ (j : ℕ). first_chunks 512 j file) end
 
 -- where fewer bytes than a block are left of a whole file, none are, and all its blocks are read
-pub rows_all : (k : ℕ) (file : List ℕ) → true ≡ is_size_good file → 512 * k ≤ length file → length (take (length file - 512 * k) (drop (512 * k) file)) < 512 → first_chunks 512 k file ≡ blocks_of file
+pub rows_all : (k : ℕ) (file : List ℕ) → true ≡ is_size_good file → 512 * k ≤ length file
+    → length (take (length file - 512 * k) (drop (512 * k) file)) < 512 → first_chunks 512 k file ≡ blocks_of file
 rows_all k file good within short =
     let size = sized file (sym good) in
     let left = ap length (take_rest file (512 * k)) ∙ length-drop (512 * k) file in
@@ -110,7 +122,8 @@ rows_all k file good within short =
 
 -- ---- scanning
 
-pub scan_on : (k : ℕ) (p : Predecessor) (b : List ℕ) (bs : List (List ℕ)) → fault_of k p b ≡ None → scan_result k p (b ∷ bs) ≡ scan_result (suc k) (as_predecessor b) bs
+pub scan_on : (k : ℕ) (p : Predecessor) (b : List ℕ) (bs : List (List ℕ)) → fault_of k p b ≡ None
+    → scan_result k p (b ∷ bs) ≡ scan_result (suc k) (as_predecessor b) bs
 scan_on k p b bs none = ap (λ o. refusal_or o (scan_result (suc k) (as_predecessor b) bs)) none
 
 -- a scan from block k on: past a block without fault, and no further than one with a fault
@@ -120,5 +133,8 @@ scan_more k p bs d less none =
     ap (scan_result k p) (drop_more bs k d less) ∙ scan_on k p (get_or bs k d) (drop (k + 1) bs) none
     ∙ ap (λ (j : ℕ). scan_result j (as_predecessor (get_or bs k d)) (drop (k + 1) bs)) (sym (add-one k))
 
-pub scan_ends : (k : ℕ) (p : Predecessor) (bs : List (List ℕ)) (d : List ℕ) (e : Refusal) → k < length bs → fault_of k p (get_or bs k d) ≡ Some e → scan_result k p (drop k bs) ≡ Err e
-scan_ends k p bs d e less bad = ap (scan_result k p) (drop_more bs k d less) ∙ ap (λ o. refusal_or o (scan_result (suc k) (as_predecessor (get_or bs k d)) (drop (k + 1) bs))) bad
+pub scan_ends : (k : ℕ) (p : Predecessor) (bs : List (List ℕ)) (d : List ℕ) (e : Refusal) → k < length bs
+    → fault_of k p (get_or bs k d) ≡ Some e → scan_result k p (drop k bs) ≡ Err e
+scan_ends k p bs d e less bad =
+    ap (scan_result k p) (drop_more bs k d less)
+    ∙ ap (λ o. refusal_or o (scan_result (suc k) (as_predecessor (get_or bs k d)) (drop (k + 1) bs))) bad

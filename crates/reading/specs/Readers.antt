@@ -19,7 +19,8 @@ blocks_read r = r.place
 
 -- ---- which record is next
 
--- why a reader that has read k blocks refuses: the file's size, a file that is over without an end block, or the first fault of block k
+-- why a reader that has read k blocks refuses: the file's size, a file that is over without an end block, or the first fault of
+-- block k
 abbrev pub refusal_at : List ℕ → ℕ → Option Refusal
 refusal_at file k =
     if is_size_good file
@@ -71,6 +72,7 @@ pub record AddsToBoth (file : List ℕ) (k : ℕ) (r : Record) : Type 0 where
 -- One call of a reader: a record adds to both parts; and where there is none, the blocks that were read are all that the file has.
 -- A refusal says nothing of the data.
 abbrev pub AddsToParts : Reader → Result (Option Item) Refusal → Type 0
-AddsToParts old (Ok None) = first_chunks block_length (blocks_read old) (lent_file old) ≡ blocks_of (lent_file old)
+AddsToParts old (Ok None) =
+    first_chunks block_length (blocks_read old) (lent_file old) ≡ blocks_of (lent_file old)
 AddsToParts old (Ok (Some i)) = AddsToBoth (lent_file old) (blocks_read old) i.record
 AddsToParts old (Err e) = Unit {0}

@@ -1,7 +1,7 @@
 // A file read record by record.
 //
-// The reader stands between two blocks. It has what the block before it says, and that is all it needs to know whether the next one may
-// follow; the ghost fields say that it has it right. `next` moves only where a record comes out.
+// The reader stands between two blocks. It keeps what the block before it says, which is all that the next block's order depends on;
+// the ghost fields say that what it keeps is right. `next` moves only where a record comes out.
 ghost use Rattle.std.specs.Prelude.{◌≡◌, ◌*◌, ◌≤◌, length};
 ghost use Rattle.format.specs.Faults.{predecessor_at};
 ghost use Rattle.reading.specs.Shapes.{predecessor_of};
@@ -42,8 +42,9 @@ impl<'a> Reader<'a> {
         }
     }
 
-    /// The next record, or none where the last was the end. It refuses a file of a wrong size (9), a block with a fault (10 to 13, with
-    /// its place) and a file that is over without an end block (14, with the count of blocks). A refusal leaves the reader where it is.
+    /// The next record, or none where the last was the end. It refuses a file of a wrong size (9), a block with a fault (10 to 13,
+    /// with its place) and a file that is over without an end block (14, with the count of blocks). A refusal leaves the reader
+    /// where it is.
     #[tactic(auto, using(crate::proofs::Scans::rows_all))]
     pub fn next(&mut self) -> Result<Option<Item<'a>>, Refusal>
         ensures file { lent_file self.new ≡ lent_file self.old }

@@ -26,8 +26,10 @@ pub struct Sections<'a> {
     pub lengths: Lengths,
 }
 
-/// All that can be said of a file without its key. It refuses a file of a wrong size (9), then by its first block with a fault (10 to
-/// 13, with the block), and then one whose last block is no end block (14, with the count of blocks). It asks for no memory.
+/// All that can be said of a file without its key: where its parts and its tag stand.
+///
+/// It refuses a file of a wrong size (9), then by its first block with a fault (10 to 13, with the block), and then one whose last
+/// block is no end block (14, with the count of blocks). It asks for no memory.
 pub fn cut_file(file: &[u8]) -> Result<Sections<'_>, Refusal>
     ensures answer { lengths_answer result ≡ scan_answer file.now }
     ensures refused { IfErr result (IsScanFault file.now) }

@@ -16,7 +16,8 @@ use Rattle.reading.proofs.scanning.scan_blocks.Goals as goal
 pub try_fold-requires-clause-callable : goal.try_fold-requires-clause-callable
 try_fold-requires-clause-callable c =
     let bs : List (List ℕ) = c.args.blocks.now in
-    let chain : YieldsList _ (λ (p : ℕ × Bor (List ℕ)). (p.0, p.1.now)) c.enumerate.result (enumerate_from 0 bs) = YieldsList-from_enumerate (YieldsList-from_slice bs (cc)) (cc) in
+    let chain : YieldsList _ (λ (p : ℕ × Bor (List ℕ)). (p.0, p.1.now)) c.enumerate.result (enumerate_from 0 bs) =
+    YieldsList-from_enumerate (YieldsList-from_slice bs (cc)) (cc) in
     serves_by _ (SoFar bs) (λ xs q x w j r. so_far_keeps bs c.told-blocks xs q x w j (let a : r.0 ≡ Ok w.1 = search rules in search (rules, a))) _ _ _ _ (λ more e. nothing_yet bs) (λ xs t q x u y s j.
     let k : ℕ = length xs in
     let p = placed bs k x (YieldsList-turn chain xs t y _ u x refl s) in
@@ -35,8 +36,10 @@ returns c =
     let a : Scan = ran.3 in
     let k : ℕ = length xs in
     let last : Predecessor = predecessor_of a.last in
-    let chain : YieldsList _ (λ (p : ℕ × Bor (List ℕ)). (p.0, p.1.now)) c.enumerate.result (enumerate_from 0 bs) = YieldsList-from_enumerate (YieldsList-from_slice bs (cc)) (cc) in
-    let so : SoFar bs xs (ran.2, a) = chained_keeps _ (SoFar bs) (λ xs q x w j r. so_far_keeps bs c.told-blocks xs q x w j (let a : r.0 ≡ Ok w.1 = search rules in search (rules, a))) xs _ _ (λ more e. nothing_yet bs) ran.5 in
+    let chain : YieldsList _ (λ (p : ℕ × Bor (List ℕ)). (p.0, p.1.now)) c.enumerate.result (enumerate_from 0 bs) =
+    YieldsList-from_enumerate (YieldsList-from_slice bs (cc)) (cc) in
+    let so : SoFar bs xs (ran.2, a) =
+    chained_keeps _ (SoFar bs) (λ xs q x w j r. so_far_keeps bs c.told-blocks xs q x w j (let a : r.0 ≡ Ok w.1 = search rules in search (rules, a))) xs _ _ (λ more e. nothing_yet bs) ran.5 in
     let m = upto bs xs (ran.2, a) so (YieldsList-so_far chain xs turns.0 turns.1) in
     by_option ran.1 ran.6
     (λ none done.
@@ -51,4 +54,5 @@ returns c =
     (λ x some broke. by_result c.try_fold.result (λ z is. absurd (search (rules, is))) (λ z is.
     let bad : fault_of x.0 last x.1.now ≡ Some z = search (rules, is) in
     let p = placed bs k x (YieldsList-turn chain xs turns.0 turns.1 ran.1 _ x some turns.2) in
-    subst (ScansBlocks bs) (sym is) (m.scan ∙ scan_ends k last bs x.1.now z p.0 (ap₂ (λ n b. fault_of n last b) (sym p.1) (sym p.2) ∙ bad))))
+    subst (ScansBlocks bs) (sym is) (m.scan
+    ∙ scan_ends k last bs x.1.now z p.0 (ap₂ (λ n b. fault_of n last b) (sym p.1) (sym p.2) ∙ bad))))

@@ -32,7 +32,8 @@ module _ (file block left : List ℕ) (k : ℕ) (p : Predecessor) (is_left : lef
   next_previous q said = said ∙ ap as_predecessor is_block ∙ sym (ap (predecessor_at file) (add-one k))
 
 -- the record that was read of what is left is that of its place
-taken : (file : List ℕ) (k : ℕ) (i : Item) → ParsesRecord (take (length file - 512 * k) (drop (512 * k) file)) i.record i.rest.now → IsItemOf file k i
+taken : (file : List ℕ) (k : ℕ) (i : Item)
+    → ParsesRecord (take (length file - 512 * k) (drop (512 * k) file)) i.record i.rest.now → IsItemOf file k i
 taken file k i parsed =
     let rest = take_rest file (512 * k) in
     let next : 512 * k + 512 ≡ 512 * suc k = omega arith in
@@ -49,7 +50,8 @@ returns-in_err-shape-clause-read c =
     let cut = c.in-Some.ensures.cases in
     rw (came.1, came.2)
     record {
-      why = wrong self.file.now c.in-Some.block.now _ self.place (predecessor_of self.last) refl cut.same cut.enough self.kind self.used (sym c.if-not-size_good.ensures) ∙ c.in_err-shape.ensures;
+      why =
+          wrong self.file.now c.in-Some.block.now _ self.place (predecessor_of self.last) refl cut.same cut.enough self.kind self.used (sym c.if-not-size_good.ensures) ∙ c.in_err-shape.ensures;
       stays = refl;
     }
 
@@ -57,8 +59,10 @@ pub invariant_of-self : goal.invariant_of-self
 invariant_of-self c =
     let self = c.args.self.now in
     let cut = c.in-Some.ensures.cases in
-    let said = next_previous self.file.now c.in-Some.block.now _ self.place (predecessor_of self.last) refl cut.same cut.enough self.kind self.used (shape_as_predecessor c.in_ok-shape.shape) c.in_ok-shape.ensures.shape in
-    let long = whole self.file.now c.in-Some.block.now _ self.place (predecessor_of self.last) refl cut.same cut.enough self.kind self.used in
+    let said =
+    next_previous self.file.now c.in-Some.block.now _ self.place (predecessor_of self.last) refl cut.same cut.enough self.kind self.used (shape_as_predecessor c.in_ok-shape.shape) c.in_ok-shape.ensures.shape in
+    let long =
+    whole self.file.now c.in-Some.block.now _ self.place (predecessor_of self.last) refl cut.same cut.enough self.kind self.used in
     record { within = omega (arith, long); kind = ap (λ (p : Predecessor). p.kind) said; used = ap (λ (p : Predecessor). p.used) said }
 
 pub returns-clause-read : goal.returns-clause-read
@@ -68,7 +72,8 @@ returns-clause-read c =
     let k : ℕ = self.place in
     let cut = c.in-Some.ensures.cases in
     record {
-      sound = wrong file c.in-Some.block.now _ k (predecessor_of self.last) refl cut.same cut.enough self.kind self.used (sym c.if-not-size_good.ensures) ∙ c.in_ok-shape.ensures.sound;
+      sound =
+          wrong file c.in-Some.block.now _ k (predecessor_of self.last) refl cut.same cut.enough self.kind self.used (sym c.if-not-size_good.ensures) ∙ c.in_ok-shape.ensures.sound;
       within = whole file c.in-Some.block.now _ k (predecessor_of self.last) refl cut.same cut.enough self.kind self.used;
       item = taken file k record { «record» = c.parse.result.0; rest = c.parse.result.1 } c.parse.ensures;
       moves = add-one k;
