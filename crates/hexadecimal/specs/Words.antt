@@ -1,5 +1,5 @@
--- What each call answers to a text, in the words of the crate `hex`: the length is looked at first, then the digits from the left, and
--- then the room.
+-- What each call answers to a text, in the words of the crate `hex`: the length is looked at first, then the digits from the left,
+-- and then the room.
 use Rattle.std.specs.Prelude.{◌≡◌, ℕ, if◌then◌else◌, List, length, take, drop, Ok, Err, Option, Result, nat_le, not, position}
 use Rattle.std.specs.Result.{result_flatten, result_map_both}
 use Rattle.field.specs.Bytes.{block_of}
