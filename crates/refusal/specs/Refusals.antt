@@ -63,4 +63,5 @@ place_text _ None = []
 
 abbrev pub refusal_line : Refusal → List ℕ
 refusal_line refusal =
-    codes "refused " ++ decimal (refusal_number refusal) ++ place_text refusal (refusal_place refusal) ++ codes ": " ++ refusal_text refusal
+    codes "refused " ++ decimal (refusal_number refusal) ++ place_text refusal (refusal_place refusal)
+    ++ codes ": " ++ refusal_text refusal
