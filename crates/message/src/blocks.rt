@@ -49,7 +49,7 @@ pub(crate) fn blocks_in(part: &[u8]) -> usize
 }
 
 /// The length block: both lengths, handed in bytes, are written in bits, eight bytes each, high byte first, the header's first
-/// (NIST SP 800-38D, section 7.1, step 4).
+/// (NIST SP 800-38D, section 7.1, step 5).
 pub fn block_of_byte_counts(header: u64, body: u64) -> Block
     ensures { result ≡ block_of_counts header body }
 {

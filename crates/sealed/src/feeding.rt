@@ -2,7 +2,7 @@
 ghost use Rattle.std.specs.Prelude.{◌≡◌, ℕ, ◌+◌, ◌≤◌, List, [], ◌++◌, length};
 ghost use Rattle.message.specs.Limits.{header_limit, body_limit};
 ghost use Rattle.reading.specs.Sections.{section_bytes};
-ghost use Rattle.sealed.specs.Feeding.{BodyFed, HeaderFed};
+ghost use Rattle.sealed.specs.Feeding.{BodyIsFed, HeaderIsFed};
 
 use engine::Engine;
 use job::{BodyJob, HeaderJob};
@@ -28,9 +28,9 @@ pub(crate) trait Takes {
 impl<E: Engine> Takes for HeaderJob<E> {
     ghost limit = { header_limit };
 
-    ghost fed = { HeaderFed E.Engine };
+    ghost fed = { HeaderIsFed E.Engine };
 
-    ghost begins = { λ first h given e took. took };
+    ghost begins = { λ first h can_switch began took. took };
 
     fn take(&mut self, piece: &[u8]) {
         let _ = self.feed(piece);
@@ -40,9 +40,9 @@ impl<E: Engine> Takes for HeaderJob<E> {
 impl<E: Engine> Takes for BodyJob<E> {
     ghost limit = { body_limit };
 
-    ghost fed = { BodyFed E.Engine };
+    ghost fed = { BodyIsFed E.Engine };
 
-    ghost begins = { λ first h given e header took. took };
+    ghost begins = { λ first h can_switch header began took. took };
 
     fn take(&mut self, piece: &[u8]) {
         let _ = self.feed(piece);
