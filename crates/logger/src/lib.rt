@@ -1,4 +1,4 @@
-// Calls for a C program: blocks cross as two numbers, refusals as negative ones.
+// Calls for a C program: blocks cross as two numbers each, refusals as negative ones.
 #![tactic(auto)]
 
 mod calls;
