@@ -38,7 +38,8 @@ number_status (Err refusal) = refusal_status refusal
 
 -- the room for the answer is looked at last
 abbrev pub tag_call_answer : List ℕ → List ℕ → List ℕ → Result (Unit {0}) Refusal
-tag_call_answer header body output = within_limits header body (if nat_lt (length output) 32 then Err OutputTooShort else Ok tt)
+tag_call_answer header body output =
+    within_limits header body (if nat_lt (length output) 32 then Err OutputTooShort else Ok tt)
 
 -- what an accepted call writes, and a refused one does not
 abbrev pub output_if : Result (Unit {0}) Refusal → List ℕ → List ℕ → List ℕ
@@ -48,22 +49,31 @@ output_if (Err refusal) bytes output = output
 -- the output afterwards: the 16 bytes of the hash, those of the tag, and what stood after them
 abbrev pub output_after : Block → Pad → List ℕ → List ℕ → List ℕ → List ℕ
 output_after subkey pad header body output =
-    output_if (tag_call_answer header body output) (bytes_of (hash_of subkey header body) ++ bytes_of (tag_of subkey pad header body).0) output
+    output_if (tag_call_answer header body output)
+    (bytes_of (hash_of subkey header body) ++ bytes_of (tag_of subkey pad header body).0)
+    output
 
 -- What a call that makes a tag answers, and the output before and after it.
-pub record AnswersTag (subkey_high subkey_low pad_high pad_low : ℕ) (header body before : List ℕ) (status : ℤ) (after : List ℕ) : Type 0 where
+pub record AnswersTag (subkey_high subkey_low pad_high pad_low : ℕ) (header body before : List ℕ)
+    (status : ℤ) (after : List ℕ) : Type 0 where
   pub value : status ≡ status_of (tag_call_answer header body before)
   pub output : after ≡ output_after (halves subkey_high subkey_low) (pad_halves pad_high pad_low) header body before
 
 -- what a call that checks a tag answers
-abbrev pub AnswersCheck : (subkey_high subkey_low pad_high pad_low : ℕ) (header body given : List ℕ) (status : ℤ) → Type 0
+abbrev pub AnswersCheck : (subkey_high subkey_low pad_high pad_low : ℕ) (header body given : List ℕ) (status : ℤ)
+    → Type 0
 AnswersCheck subkey_high subkey_low pad_high pad_low header body given status =
     status ≡ status_of (check_answer (halves subkey_high subkey_low) (pad_halves pad_high pad_low) header body given)
 
--- the number of ones where the polynomial annihilates the subkey; a refusal exactly where it does not
-abbrev pub Weighs : Block → Block → Result ℕ Refusal → Type 0
-Weighs subkey proposal (Ok weight) = Annihilates block_ring 128 (coefficients_of proposal) subkey × (weight ≡ ones_below 128 (coefficients_of proposal))
-Weighs subkey proposal (Err refusal) = (Annihilates block_ring 128 (coefficients_of proposal) subkey → ⊥) × (refusal ≡ DoesNotAnnihilate)
+module _ (subkey proposal : Block) where
+  -- the polynomial that the proposal stands for is zero at the subkey
+  abbrev pub IsAnnihilated : Type 0
+  IsAnnihilated = Annihilates block_ring 128 (coefficients_of proposal) subkey
+
+  -- the number of ones where the polynomial annihilates the subkey; a refusal exactly where it does not
+  abbrev pub Weighs : Result ℕ Refusal → Type 0
+  Weighs (Ok weight) = IsAnnihilated × (weight ≡ ones_below 128 (coefficients_of proposal))
+  Weighs (Err refusal) = ¬ IsAnnihilated × (refusal ≡ DoesNotAnnihilate)
 
 -- What a call that tries a polynomial answers: the number of ones, or the number of the refusal.
 pub record TriesPolynomial (subkey_high subkey_low proposal_high proposal_low : ℕ) (status : ℤ) : Type 0 where

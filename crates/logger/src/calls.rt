@@ -2,8 +2,8 @@
 // an answer as one number.
 ghost use Rattle.logger.specs.Calls.{AnswersCheck, AnswersTag, TriesPolynomial};
 
+use crate::output::write_digest;
 use crate::scratch::{bits_in, try_in};
-use crate::seal::seal;
 use crate::status::status;
 use engine::Step;
 use field::{Block, Element};
@@ -30,7 +30,7 @@ pub fn sonde_tag(
 {
     let subkey = Block::from_halves(subkey_high, subkey_low);
     let pad = Pad(Block::from_halves(pad_high, pad_low));
-    status(seal(subkey, pad, Message { header, body }, output).map(|()| 0))
+    status(write_digest(subkey, pad, Message { header, body }, output).map(|()| 0))
 }
 
 /// Compares a given tag, of 4 to 16 bytes, with as many first bytes of the tag of the header and the body. Subkey and pad are handed over

@@ -2,8 +2,8 @@
 #![tactic(auto)]
 
 mod calls;
+mod output;
 mod scratch;
-mod seal;
 mod status;
 
 pub use calls::{sonde_check_tag, sonde_tag, sonde_try_polynomial};

@@ -9,7 +9,7 @@ use refusal::Refusal;
 use tag::tag_checked;
 
 // Looks at both lengths before the output's, and writes only when nothing can be refused any more.
-pub(crate) fn seal(
+pub(crate) fn write_digest(
     subkey: Block,
     pad: Pad,
     message: Message,

@@ -15,7 +15,7 @@ use Rattle.engine.specs.declared.step.Step.{Step}
 use Rattle.refusal.specs.declared.Refusal.{Refusal}
 use Rattle.refusal.specs.declared.Refusal.TheVariants.{OutputTooShort}
 use Rattle.logger.specs.Calls.{tag_call_answer, output_if}
-use Rattle.logger.proofs.seal.seal.Goals as goal
+use Rattle.logger.proofs.output.write_digest.Goals as goal
 
 -- sixteen bytes over the first, and sixteen over the next
 two : (first second old : List ℕ) → length first ≡ 16 → length second ≡ 16
