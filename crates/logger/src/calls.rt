@@ -1,5 +1,5 @@
-// The calls of a C program. C has no blocks, messages or results: a block crosses as two numbers, each part of a message by itself, and
-// an answer as one number.
+// The calls of a C program. C has no blocks, messages or results: a block crosses as two numbers, each part of a message by itself,
+// and an answer as one number.
 ghost use Rattle.logger.specs.Calls.{AnswersCheck, AnswersTag, TriesPolynomial};
 
 use crate::output::write_digest;
@@ -33,8 +33,8 @@ pub fn sonde_tag(
     status(write_digest(subkey, pad, Message { header, body }, output).map(|()| 0))
 }
 
-/// Compares a given tag, of 4 to 16 bytes, with as many first bytes of the tag of the header and the body. Subkey and pad are handed over
-/// as to [`sonde_tag`].
+/// Compares a given tag, of 4 to 16 bytes, with as many first bytes of the tag of the header and the body. Subkey and pad are
+/// handed over as to [`sonde_tag`].
 ///
 /// Returns 0 where they are equal; or -7 where the given tag has another length, else -1 or -2 where header or body is too long, as
 /// above, else -8 where the tag differs. The comparison looks at all given bytes, whichever of them differ.
@@ -56,11 +56,11 @@ pub fn sonde_check_tag(
     status(check_tag(&mut engine, pad, message, tag).map(|()| 0))
 }
 
-/// Tries the polynomial t^128 + c_127 t^127 + .. + c_0 against the subkey. The proposal's two numbers hold the coefficients from the
-/// highest bit down: c_0 is the highest bit of the first number, and c_127 the lowest of the second.
+/// Tries the polynomial t^128 + c_127 t^127 + .. + c_0 against the subkey. The proposal's two numbers hold the coefficients from
+/// the highest bit down: c_0 is the highest bit of the first number, and c_127 the lowest of the second.
 ///
-/// Returns 0 to 128, how many of the c_j are one, where the polynomial annihilates the subkey; and -3 where it does not. The powers of
-/// the subkey that are worked out on the way are wiped from the stack.
+/// Returns 0 to 128, how many of the c_j are one, where the polynomial annihilates the subkey; and -3 where it does not. The powers
+/// of the subkey that are worked out on the way are wiped from the stack.
 pub fn sonde_try_polynomial(
     subkey_high: u64,
     subkey_low: u64,
@@ -73,7 +73,7 @@ pub fn sonde_try_polynomial(
     let proposal = Block::from_halves(proposal_high, proposal_low);
     let mut scratch = [Block::zero(); 128];
     let answer = try_in(subkey, proposal, &mut scratch);
-    // The scratch is zero by now, so that this return is never taken. That it is read after its wipe makes a compiler keep the wipe.
+    // The scratch is zero by now, and this return is never taken: a compiler that sees the scratch read afterwards keeps its wipe.
     if bits_in(&scratch) != 0 {
         return i32::MIN;
     }

@@ -1,7 +1,7 @@
 // The logger's calls as a C program links them.
 //
-// Each hands on to the call of that name in `logger`, whose contract it repeats. The C names and the C convention are exported from this
-// crate alone, so that `logger` stays a plain library. In C a slice is a pointer and then a number of bytes: see
+// Each hands on to the call of that name in `logger`, whose contract it repeats. The C names and the C convention are exported from
+// this crate alone, so that `logger` stays a plain library. In C a slice is a pointer and then a number of bytes: see
 // include/bilgelongan.h.
 #![tactic(auto)]
 
@@ -9,8 +9,8 @@ ghost use Rattle.logger.specs.Calls.{AnswersCheck, AnswersTag, TriesPolynomial};
 
 /// [`logger::sonde_tag`] for C: writes the 16 bytes of the hash and the 16 of the tag to the beginning of the output.
 ///
-/// Returns 0; or, with the output as it was, the first that holds of -1 (header over 65,535 bytes), -2 (body over 68,719,476,704 bytes)
-/// and -15 (output under 32 bytes).
+/// Returns 0; or, with the output as it was, the first that holds of -1 (header over 65,535 bytes), -2 (body over 68,719,476,704
+/// bytes) and -15 (output under 32 bytes).
 #[unsafe(no_mangle)]
 pub extern "C" fn sonde_tag(
     subkey_high: u64,
@@ -37,8 +37,8 @@ pub extern "C" fn sonde_tag(
 
 /// [`logger::sonde_check_tag`] for C: compares a given tag of 4 to 16 bytes with as many first bytes of the message's tag.
 ///
-/// Returns 0 where they are equal; else the first that holds of -7 (the given tag has another length), -1 and -2 (header or body too
-/// long, as above) and -8 (the tag differs).
+/// Returns 0 where they are equal; else the first that holds of -7 (the given tag has another length), -1 and -2 (header or body
+/// too long, as above) and -8 (the tag differs).
 #[unsafe(no_mangle)]
 pub extern "C" fn sonde_check_tag(
     subkey_high: u64,
@@ -63,9 +63,9 @@ pub extern "C" fn sonde_check_tag(
     )
 }
 
-/// [`logger::sonde_try_polynomial`] for C: tries a polynomial of degree 128, whose coefficients below the highest are the proposal's bits.
+/// [`logger::sonde_try_polynomial`] for C: tries the polynomial t^128 + c_127 t^127 + .. + c_0 whose c_j are the proposal's bits.
 ///
-/// Returns 0 to 128, how many of those coefficients are one, where it annihilates the subkey; and -3 where it does not.
+/// Returns 0 to 128, how many of the c_j are one, where it annihilates the subkey; and -3 where it does not.
 #[unsafe(no_mangle)]
 pub extern "C" fn sonde_try_polynomial(
     subkey_high: u64,
