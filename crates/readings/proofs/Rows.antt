@@ -49,9 +49,9 @@ table = record {
   made_product_row = ones;
   empty_hash_row = λ subkey. empty_eval subkey ∙ same_block _ _ refl;
   empty_tag_row = λ subkey pad.
-      ap (λ (b : Block). block_ring.sum b pad) (empty_eval subkey)
-      ∙ block_ring_laws.sum_comm block_ring.zero pad
-      ∙ block_ring_laws.sum_zero pad;
+      ap (λ (b : Block). block_ring.sum b pad.0) (empty_eval subkey)
+      ∙ block_ring_laws.sum_comm block_ring.zero pad.0
+      ∙ block_ring_laws.sum_zero pad.0;
   body_only_row = same_block _ _ refl;
   header_only_row = same_block _ _ refl;
 }

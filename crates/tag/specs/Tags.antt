@@ -49,7 +49,7 @@ module _ {E : Type 0} (m : Ghosts E) where
     pub ready : m.ready_of f ≡ m.ready_of e
     pub chain : Chain m (resume block_ring.zero ∷ map absorb (block_list header body)) e f
 
-  -- Hash and tag of a header and a body under the engine's subkey, which are those of the standard, and the engine that hashed them.
+  -- Hash and tag of a header and a body under the engine's subkey, which are the standard's, and the engine that hashed them.
   pub record TagsMessage (e : E) (pad : Pad) (header body : List ℕ) (f : E) (digest : Digest) : Type 0 where
     pub answer : digest ≡ digest_of (m.subkey_of e) pad header body
     pub standard : MeetsStandard (m.subkey_of e) pad header body digest

@@ -19,8 +19,8 @@ const LONGEST: usize = 16;
 
 /// Compares a given tag of 4 to 16 bytes with as many first bytes of the message's tag, under the engine's subkey and a pad.
 ///
-/// Refuses a given tag of another length (7), then a header over its limit (1), a body over its limit (2), all three before the engine
-/// is touched, and then a tag that differs (8). The comparison looks at every given byte, wherever the first difference stands.
+/// Refuses a given tag of another length (7), then a header over its limit (1) and a body over its limit (2), all before the engine
+/// is touched, and at last a tag that differs (8). The comparison looks at every given byte, wherever the first difference stands.
 pub fn check_tag<E: Engine>(
     engine: &mut E,
     pad: Pad,

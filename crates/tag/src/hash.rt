@@ -1,6 +1,6 @@
 // A whole message, hashed by an engine.
 //
-// The block list is the blocks of the header, those of the body and the length block; the engine absorbs them one by one, from zero.
+// The block list is the header's blocks, the body's and the length block; the engine absorbs them one by one, from zero.
 ghost use Rattle.std.specs.Prelude.{◌≡◌};
 ghost use Rattle.engine.specs.Rows.{HashesBlocks};
 ghost use Rattle.message.specs.Blocks.{blocks};
@@ -20,7 +20,7 @@ fn absorb_part<E: Engine>(engine: &mut E, part: &[u8])
     }
 }
 
-// The hash of a message, whatever the engine hashed before. The lengths are not looked at: only a message within its limits has one.
+// The hash of a message, whatever the engine hashed before. The lengths are not looked at here.
 pub(crate) fn hash_message<E: Engine>(engine: &mut E, message: Message) -> Block
     ensures answer { result ≡ hash_of (E.subkey_of engine.old)
         message.entry.header.now message.entry.body.now }

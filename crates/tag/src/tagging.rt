@@ -22,8 +22,8 @@ pub fn tag_checked<E: Engine>(engine: &mut E, pad: Pad, message: CheckedMessage)
 
 /// Hash and tag of a header and a body under the engine's subkey and a pad (NIST SP 800-38D, section 7.1, steps 4 to 6).
 ///
-/// A header over its limit is refused (1), and then a body over its limit (2), both before the engine is touched. Whoever has looked at
-/// the lengths calls [`tag_checked`] at once.
+/// A header over its limit is refused (1), and then a body over its limit (2), both before the engine is touched. Whoever has
+/// looked at the lengths calls [`tag_checked`] at once.
 pub fn tag_message<E: Engine>(engine: &mut E, pad: Pad, message: Message) -> Result<Digest, Refusal>
     ensures { TagsWithinLimits E.Engine engine.old pad
         message.entry.header.now message.entry.body.now engine.new result }

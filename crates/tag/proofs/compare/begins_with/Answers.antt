@@ -2,7 +2,7 @@ use Rattle.std.proofs.Common.{◌≡◌, ℕ, List, eqb, fold, zip, ap, ◌∙�
 use Rattle.std.specs.List.{starts_with}
 use Rattle.std.proofs.lemmas.Iterator.{YieldsList-from_slice, YieldsList-from_zip}
 use Rattle.std.proofs.lemmas.Iterator.Consumers.{YieldsList-at, fold_from_yields_List}
-use Rattle.tag.proofs.Comparing.{with_pair, gathered}
+use Rattle.tag.proofs.Comparing.{with_pair, fold-with_pair}
 use Rattle.tag.proofs.compare.begins_with.Goals as goal
 
 pub returns : goal.returns
@@ -16,5 +16,5 @@ returns c =
     (YieldsList-at c.zip-pairs.ensures.second (YieldsList-from_slice bytes c.iter-2.ensures.rest)))
     (λ d p r q k. search rules) in
     ap (λ (d : ℕ). eqb d 0) folded
-    ∙ gathered 0 given bytes (search rules)
+    ∙ fold-with_pair 0 given bytes (search rules)
     ∙ ap (λ (xs : List ℕ). starts_with eqb xs given) c.to_bytes-bytes.ensures
