@@ -1,15 +1,15 @@
 -- What an engine goes through in a whole job, in order.
-use Rattle.std.proofs.Common.{◌≡◌, ℕ, List, [], ◌∷◌, ◌++◌, map, length, drop, is_ok, sym, refl, ap, ◌∙◌, ap₂, append_assoc, append-nil}
+use Rattle.std.proofs.Common.{◌≡◌, ℕ, Bool, List, [], ◌∷◌, ◌++◌, map, length, drop, is_ok, sym, refl, ap, ◌∙◌, ap₂, append_assoc, append-nil}
 use Rattle.std.specs.List.{flat_map}
-use Rattle.std.proofs.lemmas.List.{drop_at, map-append}
-use Rattle.std.proofs.lemmas.List.Concat.{flat_map-append}
+use Rattle.std.proofs.lemmas.List.{drop_at, map-append, map-id}
+use Rattle.std.proofs.lemmas.List.Concat.{flat_map-append, flat_map_single}
 use Rattle.field.specs.Kinds.{block_ring}
 use Rattle.field.specs.declared.block.Block.{Block}
 use Rattle.message.specs.Blocks.{blocks, block_of_lengths, block_list}
-use Rattle.engine.specs.Chain.{Operation, resume, absorb}
+use Rattle.engine.specs.Chain.{Operation, resume, absorb, switch}
 use Rattle.job.specs.Cuts.{full_blocks, left_over}
 use Rattle.job.specs.Plain.{Answer, call_bytes, accepted_bytes}
-use Rattle.job.specs.Runs.{new_blocks, final_block, operations_for, operations_of, job_operations, absorb_of, switch_of, resume_of, switch_answers, InOrder}
+use Rattle.job.specs.Runs.{new_blocks, final_block, operations_for, operations_of, job_operations, run_operations, absorb_of, switch_of, resume_of, switch_answers, InOrder}
 use Rattle.job.specs.declared.call.Call.{Call}
 use Rattle.job.specs.declared.call.Call.TheVariants.{Feed, Switch}
 use Rattle.job.proofs.Answering.{new_blocks_follow, no_new_blocks}
@@ -92,24 +92,25 @@ absorbs_in taken (c ∷ cs) (x ∷ xs) =
     ∙ ap₂ (λ ps qs. ps ++ qs) (absorbs_for taken c x) (absorbs_in (taken ++ call_bytes c x) cs xs)
     ∙ sym (new_append taken (call_bytes c x) (accepted_bytes cs xs))
 
-switches_in : (taken : List ℕ) (cs : List Call) (xs : List Answer)
-    → flat_map switch_of (operations_of taken cs xs) ≡ switch_answers cs xs
-switches_in taken [] xs = refl
-switches_in taken (c ∷ cs) [] = refl
-switches_in taken (Feed piece ∷ cs) (x ∷ xs) =
-    flat_map-append switch_of (operations_for taken (Feed piece) x) (operations_of (taken ++ call_bytes (Feed piece) x) cs xs)
-    ∙ ap₂ (λ ps qs. ps ++ qs) (none_of switch_of (λ p. refl) (new_blocks taken (call_bytes (Feed piece) x)))
-    (switches_in (taken ++ call_bytes (Feed piece) x) cs xs)
-switches_in taken (Switch ∷ cs) (x ∷ xs) = ap (λ bs. is_ok x ∷ bs) (switches_in (taken ++ []) cs xs)
+-- what is nothing for an absorb is for a list of calls what it is for their switches
+switches_in : {X : Type 0} (f : Operation → List X) → ((p : Block) → f (absorb p) ≡ [])
+    → (taken : List ℕ) (cs : List Call) (xs : List Answer)
+    → flat_map f (operations_of taken cs xs) ≡ flat_map (λ b. f (switch b)) (switch_answers cs xs)
+switches_in f none taken [] xs = refl
+switches_in f none taken (c ∷ cs) [] = refl
+switches_in f none taken (Feed piece ∷ cs) (x ∷ xs) =
+    flat_map-append f (operations_for taken (Feed piece) x) (operations_of (taken ++ call_bytes (Feed piece) x) cs xs)
+    ∙ ap₂ (λ ps qs. ps ++ qs) (none_of f none (new_blocks taken (call_bytes (Feed piece) x)))
+    (switches_in f none (taken ++ call_bytes (Feed piece) x) cs xs)
+switches_in f none taken (Switch ∷ cs) (x ∷ xs) =
+    ap (λ ps. f (switch (is_ok x)) ++ ps) (switches_in f none (taken ++ []) cs xs)
 
-resumes_in : (taken : List ℕ) (cs : List Call) (xs : List Answer) → flat_map resume_of (operations_of taken cs xs) ≡ []
-resumes_in taken [] xs = refl
-resumes_in taken (c ∷ cs) [] = refl
-resumes_in taken (Feed piece ∷ cs) (x ∷ xs) =
-    flat_map-append resume_of (operations_for taken (Feed piece) x) (operations_of (taken ++ call_bytes (Feed piece) x) cs xs)
-    ∙ ap₂ (λ ps qs. ps ++ qs) (none_of resume_of (λ p. refl) (new_blocks taken (call_bytes (Feed piece) x)))
-    (resumes_in (taken ++ call_bytes (Feed piece) x) cs xs)
-resumes_in taken (Switch ∷ cs) (x ∷ xs) = resumes_in (taken ++ []) cs xs
+each_of : (bs : List Bool) → flat_map (λ b. b ∷ []) bs ≡ bs
+each_of bs = flat_map_single (λ b. b) bs ∙ map-id bs
+
+nothing_of : {X : Type 0} (bs : List Bool) → flat_map {A = X} (λ b. []) bs ≡ []
+nothing_of [] = refl
+nothing_of (b ∷ bs) = nothing_of bs
 
 -- ---- the whole job
 
@@ -120,29 +121,41 @@ four_parts f os ps qs rs =
     ∙ ap (λ xs. flat_map f os ++ xs)
     (flat_map-append f ps (qs ++ rs) ∙ ap (λ xs. flat_map f ps ++ xs) (flat_map-append f qs rs))
 
-pub in_order : (hs : List Call) (xs : List Answer) (bs : List Call) (ys : List Answer) → InOrder hs xs bs ys
-in_order hs xs bs ys =
-    let header : List ℕ = accepted_bytes hs xs in
-    let body : List ℕ = accepted_bytes bs ys in
-    let ends : List Block = final_block body ++ (block_of_lengths header body ∷ []) in
-    record {
-      resumes =
-          ap (λ vs. block_ring.zero ∷ vs)
-          (four_parts resume_of
-          (operations_of [] hs xs) (map absorb (final_block header)) (operations_of [] bs ys) (map absorb ends)
-          ∙ ap₂ (λ us vs. us ++ vs) (resumes_in [] hs xs)
-          (ap₂ (λ us vs. us ++ vs) (none_of resume_of (λ p. refl) (final_block header))
-          (ap₂ (λ us vs. us ++ vs) (resumes_in [] bs ys) (none_of resume_of (λ p. refl) ends))));
-      absorbs =
-          four_parts absorb_of (operations_of [] hs xs) (map absorb (final_block header)) (operations_of [] bs ys) (map absorb ends)
-          ∙ ap₂ (λ us vs. us ++ vs) (absorbs_in [] hs xs ∙ new_from_none header)
-          (ap₂ (λ us vs. us ++ vs) (absorbs_of (final_block header))
-          (ap₂ (λ us vs. us ++ vs) (absorbs_in [] bs ys ∙ new_from_none body) (absorbs_of ends)))
-          ∙ all_blocks header body;
-      switches =
-          four_parts switch_of (operations_of [] hs xs) (map absorb (final_block header)) (operations_of [] bs ys) (map absorb ends)
-          ∙ ap₂ (λ us vs. us ++ vs) (switches_in [] hs xs)
-          (ap₂ (λ us vs. us ++ vs) (none_of switch_of (λ p. refl) (final_block header))
-          (ap₂ (λ us vs. us ++ vs) (switches_in [] bs ys) (none_of switch_of (λ p. refl) ends)
-          ∙ append-nil (switch_answers bs ys)));
-    }
+module _ (hs : List Call) (xs : List Answer) (bs : List Call) (ys : List Answer) where
+  -- the same for a run: what it is for the resume, and for the switches of both parts
+  switches_in_run : {X : Type 0} (f : Operation → List X) → ((p : Block) → f (absorb p) ≡ [])
+      → flat_map f (run_operations hs xs bs ys)
+      ≡ f (resume block_ring.zero)
+      ++ (flat_map (λ b. f (switch b)) (switch_answers hs xs) ++ flat_map (λ b. f (switch b)) (switch_answers bs ys))
+  switches_in_run f none =
+      let header : List ℕ = accepted_bytes hs xs in
+      let body : List ℕ = accepted_bytes bs ys in
+      let ends : List Block = final_block body ++ (block_of_lengths header body ∷ []) in
+      ap (λ us. f (resume block_ring.zero) ++ us)
+      (four_parts f (operations_of [] hs xs) (map absorb (final_block header)) (operations_of [] bs ys) (map absorb ends)
+      ∙ ap₂ (λ us vs. us ++ vs) (switches_in f none [] hs xs)
+      (ap₂ (λ us vs. us ++ vs) (none_of f none (final_block header))
+      (ap₂ (λ us vs. us ++ vs) (switches_in f none [] bs ys) (none_of f none ends)
+      ∙ append-nil (flat_map (λ b. f (switch b)) (switch_answers bs ys)))))
+
+  absorbs_in_run : flat_map absorb_of (run_operations hs xs bs ys) ≡ block_list (accepted_bytes hs xs) (accepted_bytes bs ys)
+  absorbs_in_run =
+      let header : List ℕ = accepted_bytes hs xs in
+      let body : List ℕ = accepted_bytes bs ys in
+      let ends : List Block = final_block body ++ (block_of_lengths header body ∷ []) in
+      four_parts absorb_of (operations_of [] hs xs) (map absorb (final_block header)) (operations_of [] bs ys) (map absorb ends)
+      ∙ ap₂ (λ us vs. us ++ vs) (absorbs_in [] hs xs ∙ new_from_none header)
+      (ap₂ (λ us vs. us ++ vs) (absorbs_of (final_block header))
+      (ap₂ (λ us vs. us ++ vs) (absorbs_in [] bs ys ∙ new_from_none body) (absorbs_of ends)))
+      ∙ all_blocks header body
+
+  pub in_order : InOrder hs xs bs ys
+  in_order = record {
+    resumes =
+        switches_in_run resume_of (λ p. refl)
+        ∙ ap₂ (λ us vs. block_ring.zero ∷ (us ++ vs)) (nothing_of (switch_answers hs xs)) (nothing_of (switch_answers bs ys));
+    absorbs = absorbs_in_run;
+    switches =
+        switches_in_run switch_of (λ p. refl)
+        ∙ ap₂ (λ us vs. us ++ vs) (each_of (switch_answers hs xs)) (each_of (switch_answers bs ys));
+  }

@@ -29,21 +29,27 @@ module _ {E : Type 0} (m : Ghosts E) where
     pub value : m.value_of b.engine ≡ eval block_ring h (before ++ full_blocks taken)
     pub bytes : AreBytes taken
 
-  -- Bytes were cut into blocks: those that they fill are hashed, and the rest waits. The count stays. Only private functions
-  -- cite it.
-  pub record CutsIntoBlocks (old : BlockBuffer E) (bytes : List ℕ)
+  -- The engine hashed these blocks, these bytes wait now, and so many of the part were taken. The part stays.
+  pub record Advances (old : BlockBuffer E) (hashes : List Block) (waits : List ℕ) (total : ℕ)
       (new : BlockBuffer E) : Type 0 where
-    pub hashed : HashesBlocks m old.engine (full_blocks (pending_bytes old ++ bytes)) new.engine
-    pub left : pending_bytes new ≡ left_over (pending_bytes old ++ bytes)
-    pub count : new.count ≡ old.count
+    pub hashed : HashesBlocks m old.engine hashes new.engine
+    pub left : pending_bytes new ≡ waits
+    pub count : new.count ≡ total
     pub part : new.part ≡ old.part
 
-  -- A piece was taken whole: the blocks that it fills are hashed, the rest waits, and the count goes up by its length.
-  pub record TakesPiece (old : BlockBuffer E) (piece : List ℕ) (new : BlockBuffer E) : Type 0 where
-    pub hashed : HashesBlocks m old.engine (full_blocks (pending_bytes old ++ piece)) new.engine
-    pub left : pending_bytes new ≡ left_over (pending_bytes old ++ piece)
-    pub count : new.count ≡ old.count + length piece
-    pub part : new.part ≡ old.part
+  -- Bytes joined those that wait: the blocks that they fill are hashed, and the rest waits. So many of the part were taken.
+  abbrev pub Joins : BlockBuffer E → List ℕ → ℕ → BlockBuffer E → Type 0
+  Joins old bytes total new =
+      let all : List ℕ = pending_bytes old ++ bytes in
+      Advances old (full_blocks all) (left_over all) total new
+
+  -- Bytes were cut into blocks, and the count stays. Only private functions cite it.
+  abbrev pub CutsIntoBlocks : BlockBuffer E → List ℕ → BlockBuffer E → Type 0
+  CutsIntoBlocks old bytes new = Joins old bytes old.count new
+
+  -- A piece was taken whole: its bytes were cut into blocks, and the count goes up by its length.
+  abbrev pub TakesPiece : BlockBuffer E → List ℕ → BlockBuffer E → Type 0
+  TakesPiece old piece new = Joins old piece (old.count + length piece) new
 
   -- A feed in a state with a buffer: the piece is taken where the count leaves room for it in the part, else nothing changes.
   pub record FeedsPart {S : Type 0} (buffer_of : S → BlockBuffer E) (part : Part)
@@ -73,11 +79,8 @@ module _ {E : Type 0} (m : Ghosts E) where
     pub part : new.part ≡ old.part
 
   -- The waiting bytes were hashed, filled with zeros; none wait now.
-  pub record Flushes (old new : BlockBuffer E) : Type 0 where
-    pub hashed : HashesBlocks m old.engine (blocks (pending_bytes old)) new.engine
-    pub left : pending_bytes new ≡ []
-    pub count : new.count ≡ old.count
-    pub part : new.part ≡ old.part
+  abbrev pub Flushes : BlockBuffer E → BlockBuffer E → Type 0
+  Flushes old new = Advances old (blocks (pending_bytes old)) [] old.count new
 
   -- A call is answered as the plain job answers it, whatever the engine came with and whatever stood before the part.
   abbrev pub BufferFollows : BlockBuffer E → Call → Answer → BlockBuffer E → Type 0
