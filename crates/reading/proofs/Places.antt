@@ -53,7 +53,8 @@ module _ (b : List ℕ) (k : BlockKind) (p : Prefix) (kind : kind_number k ≡ p
       let number : kind_in b ≡ kind_number k = sym (kind ∙ named.kind) in
       let reserve = sym named.reserve in
       let used = sym named.used in
-      (λ i. leb 1 (number i) && (leb (number i) 3 && (eqb (reserve i) 0 && (is_used_fit (number i) (used i) && is_all_zero (drop (6 + used i) (take 508 b))))))
+      (λ i. leb 1 (number i) && (leb (number i) 3 && (eqb (reserve i) 0
+      && (is_used_fit (number i) (used i) && is_all_zero (drop (6 + used i) (take 508 b))))))
       ∙ grind (arith, nat_tests, (in_range k).0, (in_range k).1)
 
   fill_read : is_used_fit (kind_number k) p.used ≡ true → zeros ≡ is_all_zero slice

@@ -1,7 +1,7 @@
 // A file read record by record.
 //
-// The reader stands between two blocks. It keeps what the block before it says, which is all that the next block's order depends on;
-// the ghost fields say that what it keeps is right. `next` moves only where a record comes out.
+// The reader stands between two blocks. It keeps what the block before it says, all that the next block's order depends on; the ghost
+// fields say that what it keeps is right. `next` moves only where a record comes out.
 ghost use Rattle.std.specs.Prelude.{◌≡◌, ◌*◌, ◌≤◌, length};
 ghost use Rattle.format.specs.Faults.{predecessor_at};
 ghost use Rattle.reading.specs.Shapes.{predecessor_of};
