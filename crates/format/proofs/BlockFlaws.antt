@@ -25,10 +25,11 @@ form_decides b = (
         most_kind = f.high;
         reserve = f.reserve;
         end_used = λ end. grind (arith, nat_tests, f.used);
-        part_used = λ part. (grind (arith, nat_tests, f.used), grind (arith, nat_tests, f.used));
+        part_some = λ part. grind (arith, nat_tests, f.used);
+        part_most = λ part. grind (arith, nat_tests, f.used);
         fill = (zeros_decide (filling_in b)).0 f.zeros;
       },
-  λ f. grind (arith, nat_tests, f.end_used, f.part_used, (zeros_decide (filling_in b)).1 f.fill),
+  λ f. grind (arith, nat_tests, f.end_used, f.part_some, f.part_most, (zeros_decide (filling_in b)).1 f.fill),
 )
 
 pub order_decides : (p : Predecessor) (kind : ℕ) → Decides (is_order_good p kind) (MayFollow p kind)

@@ -148,8 +148,10 @@ pub reopens : (subkey pad : Block) (header body : List ℕ) → length header �
     → blocks_for (length header) (length body) ≤ 65536 → Reopens subkey pad header body
 reopens subkey pad header body short count = record {
   accepted = sealed_accepted subkey pad header body short count;
-  header_again = sealed_header subkey pad header body;
-  body_again = sealed_body subkey pad header body;
+  again = record {
+    same_header = sealed_header subkey pad header body;
+    same_body = sealed_body subkey pad header body;
+  };
 }
 
 module _ (subkey pad : Block) (file : List ℕ) (small : AreBytes file) where
@@ -175,8 +177,8 @@ module _ (subkey pad : Block) (file : List ℕ) (small : AreBytes file) where
       λ seal. ap is_ok (seal_accepted (header_in file) (body_in file) seal),
     );
     lengths = if_value (verdict subkey pad file) _ (λ lens e. (accepted_parts subkey pad file lens e).read);
-    only = λ header body seal. (
-      ap header_in seal.made ∙ sealed_header subkey pad header body,
-      ap body_in seal.made ∙ sealed_body subkey pad header body,
-    );
+    only = λ header body seal. record {
+      same_header = ap header_in seal.made ∙ sealed_header subkey pad header body;
+      same_body = ap body_in seal.made ∙ sealed_body subkey pad header body;
+    };
   }
