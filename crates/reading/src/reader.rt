@@ -3,6 +3,7 @@
 // The reader stands between two blocks. It keeps what the block before it says, all that the next block's order depends on; the ghost
 // fields say that what it keeps is right. `next` moves only where a record comes out.
 ghost use Rattle.std.specs.Prelude.{◌≡◌, ◌*◌, ◌≤◌, length};
+ghost use Rattle.format.specs.Layout.{block_length};
 ghost use Rattle.format.specs.Faults.{predecessor_at};
 ghost use Rattle.reading.specs.Shapes.{predecessor_of};
 
@@ -22,7 +23,7 @@ pub struct Reader<'a> {
     pub(crate) place: usize,
     // The last of them.
     pub(crate) last: Option<Shape>,
-    ghost within: { 512 * place ≤ length file.now },
+    ghost within: { block_length * place ≤ length file.now },
     ghost kind: { (predecessor_of last).kind ≡ (predecessor_at file.now place).kind },
     ghost used: { (predecessor_of last).used ≡ (predecessor_at file.now place).used },
 }
