@@ -21,7 +21,7 @@ use Rattle.format.proofs.BlockFields.{content_of}
 use Rattle.format.proofs.Sequences.{Follows, part_of, Whole, in_order, contents_follow, header_part, body_part, tag_part, length_contents}
 use Rattle.format.proofs.Results.{came, test_passed, value_of, if_value}
 use Rattle.format.proofs.FirstPass.{Passed, passed}
-use Rattle.format.proofs.Scans.{scan_numbered, block_rows, length_numbered_all, rows_numbered, rows_contents, rows_scan, data_part, read_small}
+use Rattle.format.proofs.Scans.{scan_numbered, laid_blocks, length_numbered_all, laid_chunks, laid_contents, laid_scan, data_part, read_small}
 
 -- ---- what is read out of a sealed file
 
@@ -44,19 +44,19 @@ module _ (subkey pad : Block) (header body : List ℕ) where
   length_sealed = length_carried ∙ ap (λ (n : ℕ). 512 * n) (length_contents header body tag)
 
   -- its blocks are those that were laid out
-  pub blocks_sealed : blocks_of (sealed_file subkey pad header body) ≡ block_rows 0 carried
+  pub blocks_sealed : blocks_of (sealed_file subkey pad header body) ≡ laid_blocks 0 carried
   unfolding blocks_of sealed_file
   blocks_sealed =
       let long : length (numbered_blocks 0 carried) ≡ 512 * length carried = length_carried in
       let count : length (numbered_blocks 0 carried) / 512 ≡ length carried = omega arith in
-      ap (λ (n : ℕ). first_chunks 512 n (numbered_blocks 0 carried)) count ∙ rows_numbered 0 no_predecessor carried carried_follow
+      ap (λ (n : ℕ). first_chunks 512 n (numbered_blocks 0 carried)) count ∙ laid_chunks 0 no_predecessor carried carried_follow
 
   -- the data of a kind are those of the contents of that kind
   data_sealed : (kind : ℕ) → data_of kind (blocks_of (sealed_file subkey pad header body)) ≡ part_of kind carried
   data_sealed kind =
       ap (data_of kind) blocks_sealed
-      ∙ data_part kind (block_rows 0 carried)
-      ∙ ap (part_of kind) (rows_contents 0 no_predecessor carried carried_follow)
+      ∙ data_part kind (laid_blocks 0 carried)
+      ∙ ap (part_of kind) (laid_contents 0 no_predecessor carried carried_follow)
 
   pub sealed_header : header_in (sealed_file subkey pad header body) ≡ header
   sealed_header = data_sealed 1 ∙ header_part header body tag
@@ -96,7 +96,7 @@ module _ (subkey pad : Block) (header body : List ℕ) where
         let file : List ℕ = sealed_file subkey pad header body in
         let cs : List Content = carried subkey pad header body in
         let few : 0 + length cs ≤ 65536 = omega (arith, length_contents header body (tag subkey pad header body)) in
-        let scan = rows_scan 0 no_predecessor cs (carried_follow subkey pad header body) few in
+        let scan = laid_scan 0 no_predecessor cs (carried_follow subkey pad header body) few in
         let within : length (header_in file) ≤ header_limit =
         subst (λ (h : List ℕ). length h ≤ 65535) (sym (sealed_header subkey pad header body)) short in
         let blocks : scan_result 0 no_predecessor (blocks_of file) ≡ Ok scan.0 =

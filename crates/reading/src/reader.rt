@@ -46,7 +46,7 @@ impl<'a> Reader<'a> {
     /// The next record, or none where the last was the end. It refuses a file of a wrong size (9), a block with a fault (10 to 13,
     /// with its place) and a file that is over without an end block (14, with the count of blocks). A refusal leaves the reader
     /// where it is.
-    #[tactic(auto, using(crate::proofs::Scans::rows_all))]
+    #[tactic(auto, using(crate::proofs::Scans::all_blocks_read))]
     pub fn next(&mut self) -> Result<Option<Item<'a>>, Refusal>
         ensures file { lent_file self.new ≡ lent_file self.old }
         ensures read { ReadsBlock self.old self.new result }
