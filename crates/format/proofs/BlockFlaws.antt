@@ -1,5 +1,5 @@
 -- The fault of a block, by its flaws.
-use Rattle.std.proofs.Common.{◌≡◌, ℕ, ◌<◌, Bool, true, false, cond, eqb, List, take, Some, None, Option, sym, refl, ap, ◌∙◌, subst, ◌⊎◌, inl, inr, arith}
+use Rattle.std.proofs.Common.{◌≡◌, ℕ, ◌<◌, Bool, true, false, cond, eqb, List, take, Some, None, Option, refl, ◌⊎◌, inl, inr, arith}
 use Rattle.std.specs.Prelude.{All}
 use Rattle.std.specs.Bool.{Decides}
 use Rattle.std.proofs.lemmas.Bool.{cases_Bool, false_from_ne_true}
@@ -25,10 +25,11 @@ form_decides b = (
         most_kind = f.high;
         reserve = f.reserve;
         end_used = λ end. grind (arith, nat_tests, f.used);
-        part_used = λ part. (grind (arith, nat_tests, f.used), grind (arith, nat_tests, f.used));
+        part_some = λ part. grind (arith, nat_tests, f.used);
+        part_most = λ part. grind (arith, nat_tests, f.used);
         fill = (zeros_decide (filling_in b)).0 f.zeros;
       },
-  λ f. grind (arith, nat_tests, f.end_used, f.part_used, (zeros_decide (filling_in b)).1 f.fill),
+  λ f. grind (arith, nat_tests, f.end_used, f.part_some, f.part_most, (zeros_decide (filling_in b)).1 f.fill),
 )
 
 pub order_decides : (p : Predecessor) (kind : ℕ) → Decides (is_order_good p kind) (MayFollow p kind)

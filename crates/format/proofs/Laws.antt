@@ -22,7 +22,7 @@ use Rattle.format.proofs.BlockFields.{content_of}
 use Rattle.format.proofs.Sequences.{Follows, part_of, Whole, in_order, contents_follow, header_part, body_part, tag_part, length_contents}
 use Rattle.format.proofs.Results.{came, test_passed, value_of, if_value}
 use Rattle.format.proofs.FirstPass.{Passed, passed}
-use Rattle.format.proofs.Scans.{scan_numbered, block_rows, length_numbered_all, rows_numbered, rows_contents, rows_scan, data_part, read_small}
+use Rattle.format.proofs.Scans.{scan_numbered, laid_blocks, length_numbered_all, laid_chunks, laid_contents, laid_scan, data_part, read_small}
 
 -- ---- what is read out of a sealed file
 
@@ -45,19 +45,19 @@ module _ (subkey : Block) (pad : Pad) (header body : List ℕ) where
   length_sealed = length_carried ∙ ap (λ (n : ℕ). 512 * n) (length_contents header body tag)
 
   -- its blocks are those that were laid out
-  pub blocks_sealed : blocks_of (sealed_file subkey pad header body) ≡ block_rows 0 carried
+  pub blocks_sealed : blocks_of (sealed_file subkey pad header body) ≡ laid_blocks 0 carried
   unfolding blocks_of sealed_file
   blocks_sealed =
       let long : length (numbered_blocks 0 carried) ≡ 512 * length carried = length_carried in
       let count : length (numbered_blocks 0 carried) / 512 ≡ length carried = omega arith in
-      ap (λ (n : ℕ). first_chunks 512 n (numbered_blocks 0 carried)) count ∙ rows_numbered 0 no_predecessor carried carried_follow
+      ap (λ (n : ℕ). first_chunks 512 n (numbered_blocks 0 carried)) count ∙ laid_chunks 0 no_predecessor carried carried_follow
 
   -- the data of a kind are those of the contents of that kind
   data_sealed : (kind : ℕ) → data_of kind (blocks_of (sealed_file subkey pad header body)) ≡ part_of kind carried
   data_sealed kind =
       ap (data_of kind) blocks_sealed
-      ∙ data_part kind (block_rows 0 carried)
-      ∙ ap (part_of kind) (rows_contents 0 no_predecessor carried carried_follow)
+      ∙ data_part kind (laid_blocks 0 carried)
+      ∙ ap (part_of kind) (laid_contents 0 no_predecessor carried carried_follow)
 
   pub sealed_header : header_in (sealed_file subkey pad header body) ≡ header
   sealed_header = data_sealed 1 ∙ header_part header body tag
@@ -97,7 +97,7 @@ module _ (subkey : Block) (pad : Pad) (header body : List ℕ) where
         let file : List ℕ = sealed_file subkey pad header body in
         let cs : List Content = carried subkey pad header body in
         let few : 0 + length cs ≤ 65536 = omega (arith, length_contents header body (tag subkey pad header body)) in
-        let scan = rows_scan 0 no_predecessor cs (carried_follow subkey pad header body) few in
+        let scan = laid_scan 0 no_predecessor cs (carried_follow subkey pad header body) few in
         let within : length (header_in file) ≤ header_limit =
         subst (λ (h : List ℕ). length h ≤ 65535) (sym (sealed_header subkey pad header body)) short in
         let blocks : scan_result 0 no_predecessor (blocks_of file) ≡ Ok scan.0 =
@@ -149,8 +149,10 @@ pub reopens : (subkey : Block) (pad : Pad) (header body : List ℕ) → length h
     → blocks_for (length header) (length body) ≤ 65536 → Reopens subkey pad header body
 reopens subkey pad header body short count = record {
   accepted = sealed_accepted subkey pad header body short count;
-  header_again = sealed_header subkey pad header body;
-  body_again = sealed_body subkey pad header body;
+  again = record {
+    same_header = sealed_header subkey pad header body;
+    same_body = sealed_body subkey pad header body;
+  };
 }
 
 module _ (subkey : Block) (pad : Pad) (file : List ℕ) (small : AreBytes file) where
@@ -176,8 +178,8 @@ module _ (subkey : Block) (pad : Pad) (file : List ℕ) (small : AreBytes file) 
       λ seal. ap is_ok (seal_accepted (header_in file) (body_in file) seal),
     );
     lengths = if_value (verdict subkey pad file) _ (λ lens e. (accepted_parts subkey pad file lens e).read);
-    only = λ header body seal. (
-      ap header_in seal.made ∙ sealed_header subkey pad header body,
-      ap body_in seal.made ∙ sealed_body subkey pad header body,
-    );
+    only = λ header body seal. record {
+      same_header = ap header_in seal.made ∙ sealed_header subkey pad header body;
+      same_body = ap body_in seal.made ∙ sealed_body subkey pad header body;
+    };
   }

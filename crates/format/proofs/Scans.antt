@@ -68,9 +68,9 @@ scan_numbered (suc m) k p last file long small e end =
 -- ---- blocks that are laid out
 
 -- the blocks of contents, with numbers from k on
-abbrev pub block_rows : ℕ → List Content → List (List ℕ)
-block_rows k [] = []
-block_rows k (c ∷ cs) = block_bytes k c ∷ block_rows (suc k) cs
+abbrev pub laid_blocks : ℕ → List Content → List (List ℕ)
+laid_blocks k [] = []
+laid_blocks k (c ∷ cs) = block_bytes k c ∷ laid_blocks (suc k) cs
 
 pub length_numbered_all : (k : ℕ) (p : Predecessor) (cs : List Content) → Follows p cs
     → length (numbered_blocks k cs) ≡ 512 * length cs
@@ -81,21 +81,21 @@ length_numbered_all k p (c ∷ cs) f =
     length-append (block_bytes k c) (numbered_blocks (suc k) cs) ∙ omega arith
 
 -- cut at 512 bytes, they are the blocks again
-pub rows_numbered : (k : ℕ) (p : Predecessor) (cs : List Content) → Follows p cs
-    → first_chunks 512 (length cs) (numbered_blocks k cs) ≡ block_rows k cs
-rows_numbered k p [] f = refl
-rows_numbered k p (c ∷ cs) f =
+pub laid_chunks : (k : ℕ) (p : Predecessor) (cs : List Content) → Follows p cs
+    → first_chunks 512 (length cs) (numbered_blocks k cs) ≡ laid_blocks k cs
+laid_chunks k p [] f = refl
+laid_chunks k p (c ∷ cs) f =
     let wide : length (block_bytes k c) ≡ 512 = length_numbered k c f.fit in
     ap₂ (λ (b : List ℕ) (bs : List (List ℕ)). b ∷ bs)
     (take_at (block_bytes k c) (numbered_blocks (suc k) cs) 512 wide)
     (ap (first_chunks 512 (length cs)) (drop_at (block_bytes k c) (numbered_blocks (suc k) cs) 512 wide)
-    ∙ rows_numbered (suc k) (shown c) cs f.rest)
+    ∙ laid_chunks (suc k) (shown c) cs f.rest)
 
 -- they say the contents that they carry
-pub rows_contents : (k : ℕ) (p : Predecessor) (cs : List Content) → Follows p cs → map content_of (block_rows k cs) ≡ cs
-rows_contents k p [] f = refl
-rows_contents k p (c ∷ cs) f =
-    ap₂ (λ (d : Content) (ds : List Content). d ∷ ds) (content_numbered k c f.fit) (rows_contents (suc k) (shown c) cs f.rest)
+pub laid_contents : (k : ℕ) (p : Predecessor) (cs : List Content) → Follows p cs → map content_of (laid_blocks k cs) ≡ cs
+laid_contents k p [] f = refl
+laid_contents k p (c ∷ cs) f =
+    ap₂ (λ (d : Content) (ds : List Content). d ∷ ds) (content_numbered k c f.fit) (laid_contents (suc k) (shown c) cs f.rest)
 
 -- a block laid out in its place has no fault
 numbered_no_fault : (k : ℕ) (p : Predecessor) (c : Content) → Fit c → is_order_good p c.kind ≡ true → k < 65536
@@ -106,16 +106,16 @@ numbered_no_fault k p c fit order below =
     grind (arith, nat_tests, right, number_numbered k c below, form_numbered k c fit, kind_numbered k c, order)
 
 -- a scan of contents in order meets no fault and ends at an end block
-pub rows_scan : (k : ℕ) (p : Predecessor) (cs : List Content) → Follows p cs → k + length cs ≤ 65536
-    → (last : Predecessor) × (scan_result k p (block_rows k cs) ≡ Ok last) × (last.kind ≡ 3)
-rows_scan k p [] f limit = (p, refl, f)
-rows_scan k p (c ∷ cs) f limit =
-    let rest = rows_scan (suc k) (shown c) cs f.rest (omega arith) in
+pub laid_scan : (k : ℕ) (p : Predecessor) (cs : List Content) → Follows p cs → k + length cs ≤ 65536
+    → (last : Predecessor) × (scan_result k p (laid_blocks k cs) ≡ Ok last) × (last.kind ≡ 3)
+laid_scan k p [] f limit = (p, refl, f)
+laid_scan k p (c ∷ cs) f limit =
+    let rest = laid_scan (suc k) (shown c) cs f.rest (omega arith) in
     let none : fault_of k p (block_bytes k c) ≡ None = numbered_no_fault k p c f.fit f.order (omega arith) in
     let before : as_predecessor (block_bytes k c) ≡ shown c =
     λ i. record { kind = kind_numbered k c i; used = used_numbered k c f.fit i } in (
       rest.0,
-      (λ i. refusal_or (none i) (scan_result (suc k) (before i) (block_rows (suc k) cs))) ∙ rest.1,
+      (λ i. refusal_or (none i) (scan_result (suc k) (before i) (laid_blocks (suc k) cs))) ∙ rest.1,
       rest.2,
     )
 
@@ -131,7 +131,7 @@ data_cons kind b bs = by_kind (eqb (kind_in b) kind) where
   by_kind false = refl
 
 -- of blocks, and of the contents that they say
-pub data_part : (kind : ℕ) (rows : List (List ℕ)) → data_of kind rows ≡ part_of kind (map content_of rows)
+pub data_part : (kind : ℕ) (bs : List (List ℕ)) → data_of kind bs ≡ part_of kind (map content_of bs)
 data_part kind [] = refl
 data_part kind (b ∷ bs) =
     data_cons kind b bs ∙ ap (λ (xs : List ℕ). cond (eqb (kind_in b) kind) (data_in b ++ xs) xs) (data_part kind bs)
@@ -140,12 +140,12 @@ data_small : (kind m : ℕ) (file : List ℕ) → AreBytes file → AreBytes (da
 data_small kind zero file small = λ k. omega arith
 data_small kind (suc m) file small =
     let b : List ℕ = take 512 file in
-    let rows : List (List ℕ) = first_chunks 512 m (drop 512 file) in
-    let more : AreBytes (data_of kind rows) = data_small kind m (drop 512 file) (small_drop 512 file small) in
+    let bs : List (List ℕ) = first_chunks 512 m (drop 512 file) in
+    let more : AreBytes (data_of kind bs) = data_small kind m (drop 512 file) (small_drop 512 file small) in
     let here : AreBytes (data_in b) = small_take (used_length_in b) (drop 6 b) (small_drop 6 b (small_take 512 file small)) in
-    subst AreBytes (sym (data_cons kind b rows))
-    (cond_both (eqb (kind_in b) kind) (data_in b ++ data_of kind rows) (data_of kind rows) AreBytes
-    (λ e. small_append (data_in b) (data_of kind rows) here more) (λ e. more))
+    subst AreBytes (sym (data_cons kind b bs))
+    (cond_both (eqb (kind_in b) kind) (data_in b ++ data_of kind bs) (data_of kind bs) AreBytes
+    (λ e. small_append (data_in b) (data_of kind bs) here more) (λ e. more))
 
 -- what is read out of a file of bytes are bytes
 pub read_small : (kind : ℕ) (file : List ℕ) → AreBytes file → AreBytes (data_of kind (blocks_of file))

@@ -5,7 +5,7 @@ use Rattle.std.specs.Simd.{first_chunks}
 use Rattle.field.specs.Digits.{numeral}
 use Rattle.refusal.specs.declared.Refusal.{Refusal}
 use Rattle.refusal.specs.declared.Refusal.TheVariants.{WrongCheck, WrongNumber, WrongForm, WrongOrder}
-use Rattle.format.specs.Layout.{block_length, check_place, data_limit, tag_length, file_limit, check_of}
+use Rattle.format.specs.Layout.{block_length, check_place, data_limit, tag_length, file_limit, header_kind, body_kind, end_kind, check_of}
 
 -- ---- the fields of a block, as the table in docs/FILE.md has them
 
@@ -39,13 +39,13 @@ is_all_zero xs = list_all (λ x. x == 0) xs
 -- 16 in the end block, else 1 to 502
 abbrev pub is_used_fit : ℕ → ℕ → Bool
 is_used_fit kind used =
-    if kind == 3 then used == tag_length else (nat_le 1 used && nat_le used data_limit)
+    if kind == end_kind then used == tag_length else (nat_le 1 used && nat_le used data_limit)
 
 -- kind 1 to 3, reserve zero, a used length that fits the kind, and zeros past the data
 abbrev pub is_form_good : List ℕ → Bool
 is_form_good b =
-    nat_le 1 (kind_in b)
-    && (nat_le (kind_in b) 3
+    nat_le header_kind (kind_in b)
+    && (nat_le (kind_in b) end_kind
     && (reserve_in b == 0
     && (is_used_fit (kind_in b) (used_length_in b)
     && is_all_zero (filling_in b))))
@@ -65,7 +65,7 @@ as_predecessor b = record { kind = kind_in b; used = used_length_in b }
 -- nothing after the end, no kind after a later one, and only a full block before one of its kind
 abbrev pub is_order_good : Predecessor → ℕ → Bool
 is_order_good p kind =
-    not (p.kind == 3)
+    not (p.kind == end_kind)
     && (nat_le p.kind kind
     && (not (p.kind == kind) || nat_le data_limit p.used))
 
@@ -122,10 +122,10 @@ abbrev pub data_of : ℕ → List (List ℕ) → List ℕ
 data_of kind bs = concat (map data_in (blocks_of_kind kind bs))
 
 abbrev pub header_in : List ℕ → List ℕ
-header_in file = data_of 1 (blocks_of file)
+header_in file = data_of header_kind (blocks_of file)
 
 abbrev pub body_in : List ℕ → List ℕ
-body_in file = data_of 2 (blocks_of file)
+body_in file = data_of body_kind (blocks_of file)
 
 abbrev pub tag_in : List ℕ → List ℕ
-tag_in file = data_of 3 (blocks_of file)
+tag_in file = data_of end_kind (blocks_of file)

@@ -7,7 +7,7 @@ use Rattle.message.specs.Hash.{tag_of}
 use Rattle.message.specs.declared.digest.Pad.{Pad}
 use Rattle.refusal.specs.declared.Refusal.{Refusal}
 use Rattle.refusal.specs.declared.Refusal.TheVariants.{HeaderTooLong, TagDiffers, FileSize, WrongCheck, WrongNumber, WrongForm, WrongOrder, NoEnd}
-use Rattle.format.specs.Layout.{block_length, check_place, data_limit, tag_length, most_blocks, check_of}
+use Rattle.format.specs.Layout.{block_length, check_place, data_limit, tag_length, most_blocks, header_kind, end_kind, check_of}
 use Rattle.format.specs.Faults.{Predecessor, number_in, kind_in, reserve_in, used_length_in, filling_in, stored_check, block_at, predecessor_at, header_in, body_in, tag_in}
 
 -- ---- a block
@@ -15,21 +15,22 @@ use Rattle.format.specs.Faults.{Predecessor, number_in, kind_in, reserve_in, use
 -- A block of right form.
 pub record IsFormed (b : List ℕ) : Type 0 where
   -- its kind is 1 (header), 2 (body) or 3 (end)
-  pub least_kind : 1 ≤ kind_in b
-  pub most_kind : kind_in b ≤ 3
+  pub least_kind : header_kind ≤ kind_in b
+  pub most_kind : kind_in b ≤ end_kind
   -- its reserve is zero
   pub reserve : reserve_in b ≡ 0
   -- an end block holds the 16 bytes of the tag
-  pub end_used : kind_in b ≡ 3 → used_length_in b ≡ tag_length
+  pub end_used : kind_in b ≡ end_kind → used_length_in b ≡ tag_length
   -- and another block 1 to 502 bytes of a part
-  pub part_used : kind_in b ≢ 3 → (1 ≤ used_length_in b) × (used_length_in b ≤ data_limit)
+  pub part_some : kind_in b ≢ end_kind → 1 ≤ used_length_in b
+  pub part_most : kind_in b ≢ end_kind → used_length_in b ≤ data_limit
   -- from the data to the check, every byte is zero
   pub fill : All (λ x. x ≡ 0) (filling_in b)
 
 -- A block of this kind may stand after p, the block before it.
 pub record MayFollow (p : Predecessor) (kind : ℕ) : Type 0 where
   -- no block stands after an end block
-  pub before_end : p.kind ≢ 3
+  pub before_end : p.kind ≢ end_kind
   -- nor after a block of a later kind
   pub rising : p.kind ≤ kind
   -- nor after one of its own kind, unless that one is full
@@ -96,7 +97,7 @@ last_kind file = kind_in (block_at file (block_count file - 1))
 
 -- the last block is an end block
 abbrev pub EndsInEnd : List ℕ → Type 0
-EndsInEnd file = last_kind file ≡ 3
+EndsInEnd file = last_kind file ≡ end_kind
 
 -- All blocks are right, so many of them, and the last is no end block.
 pub record LacksEnd (file : List ℕ) (count : ℕ) : Type 0 where

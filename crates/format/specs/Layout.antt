@@ -35,6 +35,19 @@ most_blocks = 65536
 abbrev pub file_limit : ℕ
 file_limit = 33554432
 
+-- ---- kinds of blocks
+
+abbrev pub header_kind : ℕ
+header_kind = 1
+
+abbrev pub body_kind : ℕ
+body_kind = 2
+
+abbrev pub end_kind : ℕ
+end_kind = 3
+
+-- ---- how many blocks
+
 -- how many blocks so many bytes of a part take: the quotient by 502, rounded up
 abbrev pub piece_count : ℕ → ℕ
 piece_count bytes = (bytes + 501) / 502
@@ -45,7 +58,7 @@ blocks_for header body = piece_count header + piece_count body + 1
 
 -- ---- one block
 
--- What one block carries: its kind (1 header, 2 body, 3 end) and its data.
+-- What one block carries: its kind and its data.
 pub record Content : Type 0 where
   pub kind : ℕ
   pub bytes : List ℕ
@@ -84,9 +97,9 @@ data_pieces bytes = first_chunks data_limit (piece_count (length bytes)) bytes
 -- header blocks, body blocks, one end block with the tag
 abbrev pub file_contents : List ℕ → List ℕ → List ℕ → List Content
 file_contents header body tag =
-    map (content 1) (data_pieces header)
-    ++ (map (content 2) (data_pieces body)
-    ++ (content 3 tag ∷ []))
+    map (content header_kind) (data_pieces header)
+    ++ (map (content body_kind) (data_pieces body)
+    ++ (content end_kind tag ∷ []))
 
 -- blocks with numbers from n on
 abbrev pub numbered_blocks : ℕ → List Content → List ℕ

@@ -8,7 +8,7 @@ use Rattle.message.specs.declared.digest.Pad.{Pad}
 use Rattle.refusal.specs.declared.Refusal.{Refusal}
 use Rattle.refusal.specs.declared.Refusal.TheVariants.{HeaderTooLong, TagDiffers, FileSize, NoEnd}
 use Rattle.format.specs.Faults.{no_predecessor, is_size_good, blocks_of, scan_result, header_in, body_in, tag_in}
-use Rattle.format.specs.Layout.{block_length, most_blocks, sealed_file, blocks_for}
+use Rattle.format.specs.Layout.{block_length, most_blocks, end_kind, sealed_file, blocks_for}
 use Rattle.format.specs.declared.lengths.Lengths.{Lengths}
 
 -- the answer of the step that follows, or the refusal of the one before it
@@ -28,7 +28,7 @@ abbrev pub scan_answer : List ℕ → Result Lengths Refusal
 scan_answer file =
     if is_size_good file
     then and_then (scan_result 0 no_predecessor (blocks_of file)) (λ last.
-    if last.kind == 3
+    if last.kind == end_kind
     then Ok (lengths_in file)
     else Err (NoEnd (length file / block_length)))
     else Err FileSize
@@ -59,6 +59,11 @@ pub record IsSealOf (subkey : Block) (pad : Pad) (header body file : List ℕ) :
   -- byte for byte
   pub made : file ≡ sealed_file subkey pad header body
 
+-- What is read out of a file is this header and this body.
+pub record HoldsParts (file header body : List ℕ) : Type 0 where
+  pub same_header : header_in file ≡ header
+  pub same_body : body_in file ≡ body
+
 -- An answer that accepts exactly the files that the writer makes.
 pub record Exact (subkey : Block) (pad : Pad) (file : List ℕ)
     (answer : Result Lengths Refusal) : Type 0 where
@@ -69,11 +74,10 @@ pub record Exact (subkey : Block) (pad : Pad) (file : List ℕ)
   -- whatever header and body the writer made the file from, they are what is read out of it
   pub only : (header body : List ℕ)
       → IsSealOf subkey pad header body file
-      → (header_in file ≡ header) × (body_in file ≡ body)
+      → HoldsParts file header body
 
 -- What a header and a body are sealed into is accepted, and both are read out of it again.
 pub record Reopens (subkey : Block) (pad : Pad) (header body : List ℕ) : Type 0 where
   pub accepted :
       verdict subkey pad (sealed_file subkey pad header body) ≡ Ok (lengths_of header body)
-  pub header_again : header_in (sealed_file subkey pad header body) ≡ header
-  pub body_again : body_in (sealed_file subkey pad header body) ≡ body
+  pub again : HoldsParts (sealed_file subkey pad header body) header body

@@ -1,6 +1,6 @@
 // The kinds of blocks, and the numbers that stand for them in a file.
 ghost use Rattle.std.specs.Prelude.{◌≡◌};
-ghost use Rattle.format.specs.Kinds.{Names, kind_number};
+ghost use Rattle.format.specs.Kinds.{NamesKind, kind_number};
 
 /// What a block carries. The kinds are ordered as they stand in a file.
 #[derive(Clone, Copy, PartialEq, Eq, PartialOrd, Ord, Debug)]
@@ -34,7 +34,7 @@ impl BlockKind {
 impl TryFrom<u8> for BlockKind {
     type Error = NoKind;
 
-    ghost try_from_gives = { Names };
+    ghost try_from_gives = { NamesKind };
 
     fn try_from(number: u8) -> Result<Self, NoKind> {
         match number {

@@ -23,8 +23,11 @@ four_bytes bs long = ap (numeral 256) (spells bs ∙ ap (λ (n : ℕ). spelled n
 
 -- the last four bytes
 pub four_bytes_at : (k : ℕ) (bs : List ℕ) → length bs ≡ k + 4
-    → numeral 256 (drop k bs) ≡ get_or bs (k + 0) 0 * 16777216 + get_or bs (k + 1) 0 * 65536 + get_or bs (k + 2) 0 * 256 + get_or bs (k + 3) 0
+    → numeral 256 (drop k bs)
+    ≡ get_or bs (k + 0) 0 * 16777216 + get_or bs (k + 1) 0 * 65536 + get_or bs (k + 2) 0 * 256 + get_or bs (k + 3) 0
 four_bytes_at k bs long =
     let four : length (drop k bs) ≡ 4 = omega (arith, length-drop k bs) in
     four_bytes (drop k bs) four
-    ∙ (λ i. get_or-drop k bs 0 0 i * 16777216 + get_or-drop k bs 1 0 i * 65536 + get_or-drop k bs 2 0 i * 256 + get_or-drop k bs 3 0 i)
+    ∙ (λ i.
+    get_or-drop k bs 0 0 i * 16777216 + get_or-drop k bs 1 0 i * 65536 + get_or-drop k bs 2 0 i * 256
+    + get_or-drop k bs 3 0 i)

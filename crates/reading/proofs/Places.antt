@@ -1,15 +1,12 @@
 -- The blocks of a file by their places, and what the tests on them tell.
-use Rattle.std.proofs.Common.{◌≡◌, ℕ, suc, ◌+◌, ◌-◌, ◌*◌, ◌%◌, ◌<◌, ◌≤◌, Bool, true, false, ◌&&◌, eqb, leb, List, length, take, drop, None, sym, refl, ap, ◌∙◌, arith}
-use Rattle.std.proofs.lemmas.Bool.{ne_eqb}
+use Rattle.std.proofs.Common.{◌≡◌, ℕ, ◌+◌, ◌-◌, ◌*◌, ◌%◌, ◌<◌, ◌≤◌, Bool, true, false, ◌&&◌, eqb, leb, List, length, take, drop, sym, refl, ap, ◌∙◌, arith}
 use Rattle.std.proofs.lemmas.Bool.Decides.{nat_tests}
-use Rattle.std.proofs.lemmas.List.{drop-take, drop-drop, length-drop, length-take-le}
-use Rattle.format.specs.Faults.{Predecessor, kind_in, used_length_in, is_used_fit, is_all_zero, is_form_good, is_size_good, block_at, predecessor_at, fault_of}
+use Rattle.std.proofs.lemmas.List.{drop-take, drop-drop}
+use Rattle.format.specs.Faults.{kind_in, used_length_in, is_used_fit, is_all_zero, is_form_good, is_size_good, block_at, predecessor_at, fault_of}
 use Rattle.format.specs.Kinds.{kind_number}
 use Rattle.format.specs.declared.block_kind.BlockKind.{BlockKind}
 use Rattle.format.specs.declared.block_kind.BlockKind.TheVariants.{Header, Body, End}
 use Rattle.format.proofs.BlockFields.{form_parts, used_limit}
-use Rattle.format.proofs.Sequences.{not_past_end}
-use Rattle.format.proofs.Scans.{faultless}
 use Rattle.reading.specs.Blocks.{IsPrefixOf}
 use Rattle.reading.specs.Readers.{refusal_at}
 use Rattle.reading.specs.declared.prefix.Prefix.{Prefix}
@@ -53,7 +50,8 @@ module _ (b : List ℕ) (k : BlockKind) (p : Prefix) (kind : kind_number k ≡ p
       let number : kind_in b ≡ kind_number k = sym (kind ∙ named.kind) in
       let reserve = sym named.reserve in
       let used = sym named.used in
-      (λ i. leb 1 (number i) && (leb (number i) 3 && (eqb (reserve i) 0 && (is_used_fit (number i) (used i) && is_all_zero (drop (6 + used i) (take 508 b))))))
+      (λ i. leb 1 (number i) && (leb (number i) 3 && (eqb (reserve i) 0
+      && (is_used_fit (number i) (used i) && is_all_zero (drop (6 + used i) (take 508 b))))))
       ∙ grind (arith, nat_tests, (in_range k).0, (in_range k).1)
 
   fill_read : is_used_fit (kind_number k) p.used ≡ true → zeros ≡ is_all_zero slice

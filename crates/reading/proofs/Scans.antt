@@ -12,17 +12,17 @@ use Rattle.format.specs.Faults.{Predecessor, as_predecessor, kind_in, used_lengt
 use Rattle.format.proofs.Scans.{data_cons as block_data_cons}
 use Rattle.reading.proofs.Places.{sized}
 
--- ---- rows
+-- ---- blocks, cut off one after another
 
-pub rows_split : (n k : ℕ) (file : List ℕ)
+pub first_chunks-split : (n k : ℕ) (file : List ℕ)
     → first_chunks 512 (n + k) file ≡ first_chunks 512 n file ++ first_chunks 512 k (drop (512 * n) file)
-rows_split zero k file = ap (λ (j : ℕ). first_chunks 512 j file) (zero-add k)
-rows_split (suc n) k file =
+first_chunks-split zero k file = ap (λ (j : ℕ). first_chunks 512 j file) (zero-add k)
+first_chunks-split (suc n) k file =
     let e : suc n + k ≡ suc (n + k) = omega arith in
     let further : 512 + 512 * n ≡ 512 * suc n = omega arith in
     ap (λ (j : ℕ). first_chunks 512 j file) e
-    ∙ ap (λ rows. take 512 file ∷ rows)
-    (rows_split n k (drop 512 file)
+    ∙ ap (λ bs. take 512 file ∷ bs)
+    (first_chunks-split n k (drop 512 file)
     ∙ ap (λ (xs : List ℕ). first_chunks 512 n (drop 512 file) ++ first_chunks 512 k xs) (drop-drop (512 * n) 512 file
     ∙ ap (λ (j : ℕ). drop j file) further))
 
@@ -65,7 +65,7 @@ data_upto kind k bs =
 pub data_more : (kind k : ℕ) (file : List ℕ)
     → data_of kind (first_chunks 512 (k + 1) file) ≡ data_of kind (first_chunks 512 k file) ++ data_of_kind kind (block_at file k)
 data_more kind k file =
-    ap (data_of kind) (rows_split k 1 file) ∙ data_append kind (first_chunks 512 k file) (block_at file k ∷ [])
+    ap (data_of kind) (first_chunks-split k 1 file) ∙ data_append kind (first_chunks 512 k file) (block_at file k ∷ [])
     ∙ ap (λ (xs : List ℕ). data_of kind (first_chunks 512 k file) ++ xs) (data_cons kind (block_at file k) []
     ∙ append-nil (data_of_kind kind (block_at file k)))
 
@@ -107,18 +107,18 @@ pub data_in_file : (kind : ℕ) (file : List ℕ) → length (data_of kind (bloc
 unfolding blocks_of
 data_in_file kind file = omega (arith, data_within kind (length file / 512) file)
 
-pub rows_at_end : (k : ℕ) (file : List ℕ) → k ≡ length file / 512 → first_chunks 512 k file ≡ blocks_of file
+pub chunks_at_end : (k : ℕ) (file : List ℕ) → k ≡ length file / 512 → first_chunks 512 k file ≡ blocks_of file
 unfolding blocks_of
-rows_at_end k file end = ap (λ (j : ℕ). first_chunks 512 j file) end
+chunks_at_end k file end = ap (λ (j : ℕ). first_chunks 512 j file) end
 
 -- where fewer bytes than a block are left of a whole file, none are, and all its blocks are read
-pub rows_all : (k : ℕ) (file : List ℕ) → true ≡ is_size_good file → 512 * k ≤ length file
+pub all_blocks_read : (k : ℕ) (file : List ℕ) → true ≡ is_size_good file → 512 * k ≤ length file
     → length (take (length file - 512 * k) (drop (512 * k) file)) < 512 → first_chunks 512 k file ≡ blocks_of file
-rows_all k file good within short =
+all_blocks_read k file good within short =
     let size = sized file (sym good) in
     let left = ap length (take_rest file (512 * k)) ∙ length-drop (512 * k) file in
     let all : 512 * k ≡ length file = omega (arith, size.whole, within, left, short) in
-    rows_at_end k file (omega (arith, all))
+    chunks_at_end k file (omega (arith, all))
 
 -- ---- scanning
 

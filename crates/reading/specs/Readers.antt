@@ -3,7 +3,7 @@ use Rattle.std.specs.Prelude.{◌≡◌, ℕ, suc, ◌*◌, ◌≤◌, if◌then
 use Rattle.std.specs.Simd.{first_chunks}
 use Rattle.refusal.specs.declared.Refusal.{Refusal}
 use Rattle.refusal.specs.declared.Refusal.TheVariants.{FileSize, NoEnd}
-use Rattle.format.specs.Layout.{block_length}
+use Rattle.format.specs.Layout.{block_length, header_kind, body_kind, end_kind}
 use Rattle.format.specs.Faults.{is_size_good, block_at, predecessor_at, fault_of, blocks_of, data_of}
 use Rattle.reading.specs.Records.{IsItemOf, piece_for}
 use Rattle.reading.specs.declared.reader.Reader.{Reader}
@@ -25,7 +25,7 @@ abbrev pub refusal_at : List ℕ → ℕ → Option Refusal
 refusal_at file k =
     if is_size_good file
     then if block_length * k == length file
-    then if (predecessor_at file k).kind == 3 then None else Some (NoEnd k)
+    then if (predecessor_at file k).kind == end_kind then None else Some (NoEnd k)
     else fault_of k (predecessor_at file k) (block_at file k)
     else Some FileSize
 
@@ -66,8 +66,8 @@ IsNextPiece kind file k r =
 
 -- The record of block k adds to both parts what that block does.
 pub record AddsToBoth (file : List ℕ) (k : ℕ) (r : Record) : Type 0 where
-  pub header : IsNextPiece 1 file k r
-  pub body : IsNextPiece 2 file k r
+  pub header : IsNextPiece header_kind file k r
+  pub body : IsNextPiece body_kind file k r
 
 -- One call of a reader: a record adds to both parts; and where there is none, the blocks that were read are all that the file has.
 -- A refusal says nothing of the data.

@@ -1,6 +1,6 @@
 -- What a reader hands out.
 use Rattle.std.specs.Prelude.{◌≡◌, ℕ, suc, ◌*◌, if◌then◌else◌, List, [], take, drop, ◌==◌}
-use Rattle.format.specs.Layout.{block_length}
+use Rattle.format.specs.Layout.{block_length, header_kind, body_kind, end_kind}
 use Rattle.format.specs.Faults.{kind_in, data_in, block_at}
 use Rattle.reading.specs.declared.record.Item.{Item}
 use Rattle.reading.specs.declared.record.Record.{Record}
@@ -8,9 +8,9 @@ use Rattle.reading.specs.declared.record.Record.TheVariants.{Header, Body, End}
 
 -- the number of a record's kind
 abbrev pub record_kind : Record → ℕ
-record_kind (Header piece) = 1
-record_kind (Body piece) = 2
-record_kind (End piece) = 3
+record_kind (Header piece) = header_kind
+record_kind (Body piece) = body_kind
+record_kind (End piece) = end_kind
 
 abbrev pub record_data : Record → List ℕ
 record_data (Header piece) = piece.now

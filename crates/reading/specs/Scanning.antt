@@ -1,7 +1,7 @@
 -- What a scan of a file's blocks goes through.
 use Rattle.std.specs.Prelude.{◌≡◌, ℕ, ◌+◌, ◌≤◌, if◌then◌else◌, List, length, Some, Ok, Err, Result, ◌==◌}
 use Rattle.refusal.specs.declared.Refusal.{Refusal}
-use Rattle.format.specs.Layout.{most_blocks, file_limit}
+use Rattle.format.specs.Layout.{most_blocks, file_limit, header_kind, body_kind}
 use Rattle.format.specs.Faults.{no_predecessor, scan_result, blocks_of_kind, data_of}
 use Rattle.format.specs.Kinds.{kind_number}
 use Rattle.reading.specs.Shapes.{predecessor_of}
@@ -22,8 +22,8 @@ pub record IsWithinFile (t : Tally) : Type 0 where
 abbrev pub scan_after : Scan → Shape → Scan
 scan_after s b = record {
   last = Some b;
-  header = if kind_number b.kind == 1 then tally_with s.header b.used else s.header;
-  body = if kind_number b.kind == 2 then tally_with s.body b.used else s.body;
+  header = if kind_number b.kind == header_kind then tally_with s.header b.used else s.header;
+  body = if kind_number b.kind == body_kind then tally_with s.body b.used else s.body;
 }
 
 -- How many blocks of a kind there are, and how many bytes of data they have.
@@ -34,8 +34,8 @@ pub record IsTallyOf (kind : ℕ) (bs : List (List ℕ)) (t : Tally) : Type 0 wh
 -- Blocks without fault: what the last of them says, and how much of each part they have.
 pub record IsScanOf (bs : List (List ℕ)) (s : Scan) : Type 0 where
   pub sound : scan_result 0 no_predecessor bs ≡ Ok (predecessor_of s.last)
-  pub header : IsTallyOf 1 bs s.header
-  pub body : IsTallyOf 2 bs s.body
+  pub header : IsTallyOf header_kind bs s.header
+  pub body : IsTallyOf body_kind bs s.body
 
 -- what all blocks say, or the first fault
 abbrev pub ScansBlocks : List (List ℕ) → Result Scan Refusal → Type 0

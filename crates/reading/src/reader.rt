@@ -1,8 +1,9 @@
 // A file read record by record.
 //
-// The reader stands between two blocks. It keeps what the block before it says, which is all that the next block's order depends on;
-// the ghost fields say that what it keeps is right. `next` moves only where a record comes out.
+// The reader stands between two blocks. It keeps what the block before it says, all that the next block's order depends on; the ghost
+// fields say that what it keeps is right. `next` moves only where a record comes out.
 ghost use Rattle.std.specs.Prelude.{◌≡◌, ◌*◌, ◌≤◌, length};
+ghost use Rattle.format.specs.Layout.{block_length};
 ghost use Rattle.format.specs.Faults.{predecessor_at};
 ghost use Rattle.reading.specs.Shapes.{predecessor_of};
 
@@ -22,7 +23,7 @@ pub struct Reader<'a> {
     pub(crate) place: usize,
     // The last of them.
     pub(crate) last: Option<Shape>,
-    ghost within: { 512 * place ≤ length file.now },
+    ghost within: { block_length * place ≤ length file.now },
     ghost kind: { (predecessor_of last).kind ≡ (predecessor_at file.now place).kind },
     ghost used: { (predecessor_of last).used ≡ (predecessor_at file.now place).used },
 }
@@ -45,7 +46,7 @@ impl<'a> Reader<'a> {
     /// The next record, or none where the last was the end. It refuses a file of a wrong size (9), a block with a fault (10 to 13,
     /// with its place) and a file that is over without an end block (14, with the count of blocks). A refusal leaves the reader
     /// where it is.
-    #[tactic(auto, using(crate::proofs::Scans::rows_all))]
+    #[tactic(auto, using(crate::proofs::Scans::all_blocks_read))]
     pub fn next(&mut self) -> Result<Option<Item<'a>>, Refusal>
         ensures file { lent_file self.new ≡ lent_file self.old }
         ensures read { ReadsBlock self.old self.new result }

@@ -1,6 +1,7 @@
 // What a reader hands out, and how it is read of a block whose form is known.
 ghost use Rattle.std.specs.Prelude.{◌≡◌, ◌≤◌, length, take};
 ghost use Rattle.format.specs.Faults.{as_predecessor};
+ghost use Rattle.format.specs.Layout.{block_length};
 ghost use Rattle.format.specs.Kinds.{kind_number};
 ghost use Rattle.reading.specs.Records.{ParsesRecord, record_data, record_kind};
 ghost use Rattle.reading.specs.Shapes.{shape_as_predecessor};
@@ -43,8 +44,8 @@ fn record_of<'a>(kind: BlockKind, data: &'a [u8]) -> Record<'a>
 
 /// The record of the block that stands first, which has this shape, and the bytes after the block.
 pub(crate) fn parse<'a>(left: &'a [u8], shape: Shape) -> (Record<'a>, &'a [u8])
-    requires long { 512 ≤ length left.now }
-    requires shape { shape_as_predecessor shape ≡ as_predecessor (take 512 left.now) }
+    requires long { block_length ≤ length left.now }
+    requires shape { shape_as_predecessor shape ≡ as_predecessor (take block_length left.now) }
     ensures { ParsesRecord left.now result.0 result.1.now }
 {
     let Some((block, rest)) = left.split_first_chunk::<BLOCK_BYTES>() else {

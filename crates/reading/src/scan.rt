@@ -13,6 +13,7 @@ pub(crate) struct Scan {
 
 impl Scan {
     ghost use Rattle.std.specs.Prelude.{◌≡◌, nat_eq};
+    ghost use Rattle.format.specs.Layout.{end_kind};
     ghost use Rattle.reading.specs.Scanning.{IsWithinFile, scan_after};
     ghost use Rattle.reading.specs.Shapes.{predecessor_of};
 
@@ -32,7 +33,7 @@ impl Scan {
 
     /// Whether the last block is an end block.
     pub(crate) fn has_end(self) -> bool
-        ensures { result ≡ nat_eq (predecessor_of self.last).kind 3 }
+        ensures { result ≡ nat_eq (predecessor_of self.last).kind end_kind }
     {
         self.last.is_some_and(Shape::is_end)
     }

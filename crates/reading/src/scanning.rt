@@ -3,6 +3,7 @@
 // Kinds do not fall and one end block stands last, so two counts of blocks say where both parts begin and end: the scan keeps no
 // list of blocks and asks for no memory.
 ghost use Rattle.std.specs.Prelude.{◌≤◌, length};
+ghost use Rattle.format.specs.Layout.{most_blocks};
 ghost use Rattle.reading.specs.Scanning.{ScansBlocks};
 
 use crate::faults::check_block;
@@ -13,7 +14,7 @@ use refusal::Refusal;
 
 /// What all blocks say, or the first fault of the first block that has one.
 pub(crate) fn scan_blocks(blocks: &[[u8; BLOCK_BYTES]]) -> Result<Scan, Refusal>
-    requires { length blocks.now ≤ 65536 }
+    requires { length blocks.now ≤ most_blocks }
     ensures { ScansBlocks blocks.now result }
 {
     let none = Tally {

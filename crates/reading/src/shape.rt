@@ -1,5 +1,6 @@
 // What a block of good form says of itself.
 ghost use Rattle.std.specs.Prelude.{◌≤◌};
+ghost use Rattle.format.specs.Layout.{data_limit};
 
 use format::{BlockKind, DATA_BYTES};
 
@@ -9,17 +10,18 @@ pub(crate) struct Shape {
     pub(crate) kind: BlockKind,
     /// How many bytes of data the block carries.
     pub(crate) used: usize,
-    ghost short: { used ≤ 502 },
+    ghost short: { used ≤ data_limit },
 }
 
 impl Shape {
     ghost use Rattle.std.specs.Prelude.{◌≡◌, nat_eq};
     ghost use Rattle.format.specs.Faults.{is_order_good};
     ghost use Rattle.format.specs.Kinds.{kind_number};
+    ghost use Rattle.format.specs.Layout.{end_kind};
     ghost use Rattle.reading.specs.Shapes.{shape_as_predecessor};
 
     pub(crate) fn is_end(self) -> bool
-        ensures { result ≡ nat_eq (kind_number self.kind) 3 }
+        ensures { result ≡ nat_eq (kind_number self.kind) end_kind }
     {
         self.kind == BlockKind::End
     }

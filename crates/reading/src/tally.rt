@@ -10,12 +10,13 @@ pub(crate) struct Tally {
 
 impl Tally {
     ghost use Rattle.std.specs.Prelude.{◌≡◌, ◌≤◌};
+    ghost use Rattle.format.specs.Layout.{data_limit};
     ghost use Rattle.reading.specs.Scanning.{IsWithinFile, tally_with};
 
     /// Counts one more block, with this many bytes of data.
     pub(crate) fn add(&mut self, used: usize)
         requires within { IsWithinFile self.old }
-        requires used { used ≤ 502 }
+        requires used { used ≤ data_limit }
         ensures { self.new ≡ tally_with self.old used }
     {
         self.blocks += 1;

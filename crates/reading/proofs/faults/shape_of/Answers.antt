@@ -1,6 +1,6 @@
 use Rattle.std.proofs.Common.{◌≡◌, ℕ, Result, Ok, Err, Some, sym, ◌∙◌}
 use Rattle.std.specs.Result.{result_ok}
-use Rattle.format.specs.Kinds.{Names, kind_number}
+use Rattle.format.specs.Kinds.{NamesKind, kind_number}
 use Rattle.format.specs.declared.block_kind.BlockKind.{BlockKind}
 use Rattle.format.specs.declared.block_kind.NoKind.{NoKind}
 use Rattle.reading.specs.declared.prefix.Prefix.{Prefix}
@@ -9,7 +9,7 @@ use Rattle.reading.proofs.faults.shape_of.Goals as goal
 use Rattle.reading.proofs.faults.shape_of.Goals.{then-prefix-ne0-via-then-prefix-ne0, then-prefix-ne0-via-else-prefix-ne0+then-not-used_fits, then-prefix-ne0-via-else-prefix-ne0+else-not-used_fits+then-not-all_zero}
 
 -- what is read of a result that is accepted
-known : (n : ℕ) (r : Result BlockKind NoKind) (kind : BlockKind) → Names n r → Some kind ≡ result_ok r → kind_number kind ≡ n
+known : (n : ℕ) (r : Result BlockKind NoKind) (kind : BlockKind) → NamesKind n r → Some kind ≡ result_ok r → kind_number kind ≡ n
 known n (Ok k) kind is same = cc
 known n (Err e) kind is same = cc
 

@@ -37,7 +37,9 @@ returns-in_err-scan-clause-answer c =
     let came = err_from_is_err_and c.from_residual.result c.from_residual.ensures.1 in
     let all = chunks_are file c.as_chunks.result.0.now c.as_chunks.ensures.front in
     ap lengths_answer (came.1 ∙ ap (λ (e : Refusal). Err e) came.2)
-    ∙ sym (answer_fault file (sym c.if-not-size_good.ensures) c.in_err-scan.field-0.0 (ap (scan_result 0 no_predecessor) (sym all) ∙ c.in_err-scan.ensures))
+    ∙ sym
+    (answer_fault file (sym c.if-not-size_good.ensures) c.in_err-scan.field-0.0
+    (ap (scan_result 0 no_predecessor) (sym all) ∙ c.in_err-scan.ensures))
 
 pub returns-in_err-scan-clause-refused : goal.returns-in_err-scan-clause-refused
 returns-in_err-scan-clause-refused c = fault_told c.args.file.now c.from_residual.result (returns-in_err-scan-clause-answer c)
@@ -48,7 +50,9 @@ returns-then-not-has_end-clause-answer c =
     let all = chunks_are file c.as_chunks.result.0.now c.as_chunks.ensures.front in
     let none = sym c.has_end.ensures ∙ c.if-not-has_end.true in
     ap (λ (n : ℕ). Err (NoEnd n)) c.as_chunks.ensures.front_len
-    ∙ sym (answer_no_end file (sym c.if-not-size_good.ensures) (predecessor_of c.in_ok-scan.scan.last) (ap (scan_result 0 no_predecessor) (sym all) ∙ c.in_ok-scan.ensures.sound) none)
+    ∙ sym
+    (answer_no_end file (sym c.if-not-size_good.ensures) (predecessor_of c.in_ok-scan.scan.last)
+    (ap (scan_result 0 no_predecessor) (sym all) ∙ c.in_ok-scan.ensures.sound) none)
 
 pub returns-then-not-has_end-clause-refused : goal.returns-then-not-has_end-clause-refused
 returns-then-not-has_end-clause-refused c =
@@ -95,7 +99,10 @@ returns c =
     λ kind n so. so ∙ ap (λ (xs : List (List ℕ)). length (data_of kind xs)) all in
     record {
       answer =
-          (λ i. Ok record { header = size 1 scan.header.bytes said.header.bytes i; body = size 2 scan.body.bytes said.body.bytes i })
+          (λ i. Ok record {
+            header = size 1 scan.header.bytes said.header.bytes i;
+            body = size 2 scan.body.bytes said.body.bytes i;
+          })
           ∙ sym (answer_end file (sym c.if-not-size_good.ensures) last (ap (scan_result 0 no_predecessor) (sym all)
           ∙ said.sound) test);
       refused = tt;

@@ -25,12 +25,15 @@ written_on taken piece output start new at k here long so_far same =
 
 pub slice_bounds-copy_from_slice-end : goal.slice_bounds-copy_from_slice-end
 slice_bounds-copy_from_slice-end c =
+    let pieces = section_pieces c.args.self in
+    let loop = c.loop-piece in
     let chain =
-    YieldsList-from_first (λ (x : Bor (List ℕ)). x.now) section_pieces {s = c.into_iter-piece-iterator.result} (section_pieces c.args.self) cc in
-    let so_far = YieldsList-so_far chain c.loop-piece.yielded c.loop-piece.piece-iterator c.loop-piece.yielded_by in
+    YieldsList-from_first (λ (x : Bor (List ℕ)). x.now) section_pieces {s = c.into_iter-piece-iterator.result} pieces cc in
+    let so_far = YieldsList-so_far chain loop.yielded loop.piece-iterator loop.yielded_by in
     let turn =
-    YieldsList-turn chain c.loop-piece.yielded c.loop-piece.piece-iterator c.loop-piece.yielded_by _ c.next.new.self c.in-Some.piece c.in-Some.is c.next.ensures.steps in
-    let room = pieces_within (section_pieces c.args.self) c.loop-piece.yielded c.in-Some.piece so_far turn in
+    YieldsList-turn chain loop.yielded loop.piece-iterator loop.yielded_by
+    _ c.next.new.self c.in-Some.piece c.in-Some.is c.next.ensures.steps in
+    let room = pieces_within pieces loop.yielded c.in-Some.piece so_far turn in
     let within : c.loop-piece.at + length c.in-Some.piece.now ≤ length c.loop-piece.output =
     omega (arith, c.loop-piece.invariant.2, room, c.requires.room, c.loop-piece.auto.output) in
     within
@@ -45,6 +48,7 @@ loop-piece-preserved c =
       tt,
       tt,
       omega (arith, so.2, ap length next, length-append taken piece),
-      written_on taken piece c.loop-piece.output c.args.output.now c.copy_from_slice.new.self at (at + length piece - at) so.2 (omega arith) so.3 c.copy_from_slice.ensures.after
+      written_on taken piece c.loop-piece.output c.args.output.now c.copy_from_slice.new.self at (at + length piece - at)
+          so.2 (omega arith) so.3 c.copy_from_slice.ensures.after
           ∙ ap₂ (λ (xs : List ℕ) (n : ℕ). xs ++ drop n c.args.output.now) (sym next) (omega arith),
     )
