@@ -37,6 +37,7 @@ pub(crate) fn expand<E: Element + Copy>(coefficients: &mut [E], subkey: E)
     ensures { coefficients.new ≡ lower_conjugates E.Element subkey (length coefficients.old) }
 {
     let mut root = subkey;
+    // The front holds a product of degree `degree`, and the place behind it takes the coefficient that the next factor adds.
     for degree in 0..coefficients.len() {
         coefficients[degree] = multiply(&mut coefficients[..degree], root);
         root = root.times(root);
