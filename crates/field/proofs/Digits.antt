@@ -9,9 +9,13 @@ abbrev pub spelled : {X : Type 0} → ℕ → (ℕ → X) → List X
 spelled zero at = []
 spelled (suc n) at = at zero ∷ spelled n (λ k. at (suc k))
 
-pub spells_list : {X : Type 0} (none : X) (xs : List X) → xs ≡ spelled (length xs) (λ k. get_or xs k none)
+spells_list : {X : Type 0} (none : X) (xs : List X) → xs ≡ spelled (length xs) (λ k. get_or xs k none)
 spells_list none [] = refl
 spells_list none (x ∷ xs) = ap (λ ys. x ∷ ys) (spells_list none xs)
+
+-- the same where the length is known
+pub spells_length : {X : Type 0} (none : X) (xs : List X) (n : ℕ) → length xs ≡ n → xs ≡ spelled n (λ k. get_or xs k none)
+spells_length none xs n long = spells_list none xs ∙ ap (λ (k : ℕ). spelled k (λ i. get_or xs i none)) long
 
 pub spells : (xs : List ℕ) → xs ≡ spelled (length xs) (λ k. get_or xs k 0)
 spells = spells_list 0

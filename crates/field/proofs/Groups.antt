@@ -29,27 +29,27 @@ word_value : (w : Word) → word w.value ≡ w
 word_value w = sym (entered word_residues w w.value refl)
 
 -- a number times a word
-weighed_one : (n : ℕ) (w : Word) → word (n * w.value) ≡ word_ring.product (word n) w
-weighed_one n w = word_product n w.value ∙ ap (word_ring.product (word n)) (word_value w)
+word-times_value : (n : ℕ) (w : Word) → word (n * w.value) ≡ word_ring.product (word n) w
+word-times_value n w = word_product n w.value ∙ ap (word_ring.product (word n)) (word_value w)
 
 -- the numbers that pairs of bytes write, each times its power of the key
-abbrev pub weighed : Word → List (List ℕ) → ℕ
-weighed r [] = 0
-weighed r (n ∷ ns) = numeral 256 n * (power word_ring r (suc (length (map word_of ns)))).value + weighed r ns
+abbrev pub weighted_sum : Word → List (List ℕ) → ℕ
+weighted_sum r [] = 0
+weighted_sum r (n ∷ ns) = numeral 256 n * (power word_ring r (suc (length (map word_of ns)))).value + weighted_sum r ns
 
-word_weighed : (r : Word) (ns : List (List ℕ)) → word (weighed r ns) ≡ eval word_ring r (map word_of ns)
-word_weighed r [] = refl
-word_weighed r (n ∷ ns) =
+word-weighted_sum : (r : Word) (ns : List (List ℕ)) → word (weighted_sum r ns) ≡ eval word_ring r (map word_of ns)
+word-weighted_sum r [] = refl
+word-weighted_sum r (n ∷ ns) =
     let p : Word = power word_ring r (suc (length (map word_of ns))) in
-    word_sum (numeral 256 n * p.value) (weighed r ns)
-    ∙ ap₂ word_ring.sum (weighed_one (numeral 256 n) p) (word_weighed r ns)
+    word_sum (numeral 256 n * p.value) (weighted_sum r ns)
+    ∙ ap₂ word_ring.sum (word-times_value (numeral 256 n) p) (word-weighted_sum r ns)
 
 pub word_from : (r v : Word) (ns : List (List ℕ))
-    → word (v.value * (power word_ring r (length (map word_of ns))).value + weighed r ns) ≡ eval_from word_ring r v (map word_of ns)
+    → word (v.value * (power word_ring r (length (map word_of ns))).value + weighted_sum r ns) ≡ eval_from word_ring r v (map word_of ns)
 word_from r v ns =
     let p : Word = power word_ring r (length (map word_of ns)) in
-    word_sum (v.value * p.value) (weighed r ns)
-    ∙ ap₂ word_ring.sum (weighed_one v.value p ∙ ap (λ x. word_ring.product x p) (word_value v)) (word_weighed r ns)
+    word_sum (v.value * p.value) (weighted_sum r ns)
+    ∙ ap₂ word_ring.sum (word-times_value v.value p ∙ ap (λ x. word_ring.product x p) (word_value v)) (word-weighted_sum r ns)
 
 -- a row taken in by groups, and then what is left
 module _ {R X : Type 0} (m : Ghosts R) (laws : CommutativeRing m.zero m.one m.sum m.product) (element : X → R) (r : R) where

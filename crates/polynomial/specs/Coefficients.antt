@@ -8,17 +8,20 @@ use Rattle.field.specs.Kinds.{block_shape, nibble_shape, ring_of}
 use Rattle.field.specs.Residues.{Residues, value_below}
 use Rattle.polynomial.specs.Bits.{BinaryLaws, bit_in, ones_below}
 
+-- bits that agree have as many ones
 pub same_ones : (n : ℕ) (f g : ℕ → Bool) → ((k : ℕ) → k < n → f k ≡ g k) → ones_below n f ≡ ones_below n g
 unfolding ones_below
 same_ones zero f g same = refl
 same_ones (suc n) f g same =
     ap₂ (λ (x : ℕ) (b : Bool). x + (if b then 1 else 0)) (same_ones n f g (λ k h. same k (omega arith))) (same n (omega arith))
 
+-- the first bit, counted apart
 first_one : (n : ℕ) (f : ℕ → Bool) → ones_below (suc n) f ≡ ones_below n (λ k. f (suc k)) + (if f zero then 1 else 0)
 unfolding ones_below
 first_one zero f = refl
 first_one (suc n) f = omega (arith, first_one n f)
 
+-- read backwards, the bits have as many ones
 pub reversed_ones : (n : ℕ) (f : ℕ → Bool) → ones_below n (λ k. f (n - suc k)) ≡ ones_below n f
 unfolding ones_below
 reversed_ones zero f = refl
@@ -33,10 +36,12 @@ reversed_ones (suc n) f =
 
 -- Where a shape has its coefficients among the bits of a number: each in a place of its own, and one in each place below the width.
 pub record HasPlaces (shape : FieldShape) : Type 0 where
+  -- where the coefficient of index k stands, counted from the lowest bit
   pub place : ℕ → ℕ
   pub digit : (v k : ℕ) → shape.digit v k ≡ v / 2 ^ place k % 2
   pub within : (k : ℕ) → k < shape.width → place k < shape.width
   pub apart : (j k : ℕ) → j < shape.width → k < shape.width → place j ≡ place k → j ≡ k
+  -- so that all places are counted with the coefficients
   pub every : (f : ℕ → Bool) → ones_below shape.width (λ k. f (place k)) ≡ ones_below shape.width f
 
 abbrev pub high_places : (width rest : ℕ) → HasPlaces (high_first width rest)

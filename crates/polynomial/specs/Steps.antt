@@ -10,11 +10,12 @@ module _ {K : Type 0} (m : Ghosts K) where
   abbrev pub power_list : K → ℕ → List K
   power_list r n = map (power m r) (range_with_len 0 n)
 
-  -- where a row holds the powers of some r, this sum is the value there of as many bits, without the highest term
+  -- where a row holds the powers of some r, this is the value at r of a proposal with as many bits, but for its highest term
   abbrev pub SumsPowers : (ℕ → Bool) → List K → K → Type 0
-  SumsPowers bits powers sum = (r : K) → powers ≡ power_list r (length powers) → sum ≡ lower_value m (length powers) bits r
+  SumsPowers bits powers sum =
+      (r : K) → powers ≡ power_list r (length powers) → sum ≡ lower_value m (length powers) bits r
 
-  -- t + z times a polynomial whose highest coefficient is one; neither that one nor the product's is listed
+  -- t + z times a polynomial whose highest coefficient is one; neither that one nor the product's own is listed
   abbrev pub lower_linear_from : K → K → List K → List K
   lower_linear_from z before [] = m.sum before z ∷ []
   lower_linear_from z before (c ∷ cs) = m.sum before (m.product z c) ∷ lower_linear_from z c cs

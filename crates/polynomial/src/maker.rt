@@ -37,6 +37,7 @@ pub(crate) fn expand<E: Element + Copy>(coefficients: &mut [E], subkey: E)
     ensures { coefficients.new ≡ lower_conjugates E.Element subkey (length coefficients.old) }
 {
     let mut root = subkey;
+    // The front holds a product of degree `degree`, and the place behind it takes the coefficient that the next factor adds.
     for degree in 0..coefficients.len() {
         coefficients[degree] = multiply(&mut coefficients[..degree], root);
         root = root.times(root);
@@ -63,9 +64,11 @@ pub(crate) fn read_bits<K: Binary>(coefficients: &[K]) -> Option<K>
 /// The polynomial of all conjugates of a subkey: the product of t + subkey^(2^i) for i below the kind's width, which annihilates
 /// the subkey. The answer has its coefficients, that of t^j at index j, but for the highest, which is one.
 ///
-/// It refuses with `ScratchTooShort` where the scratch holds fewer elements than the kind's width (128 for blocks), and with
-/// `NotBinary` where a coefficient is neither zero nor one. The scratch is lent for this call alone: as many elements at its front
-/// as the width are zero afterwards, so that none tells the subkey, and the others stay. One that is too short is not touched.
+/// It refuses with `ScratchTooShort` (5) where the scratch holds fewer elements than the kind's width (128 blocks, 4 nibbles),
+/// and with `NotBinary` (4) where a coefficient is neither zero nor one.
+///
+/// The scratch is lent for this call alone: as many elements at its front as the width are zero afterwards, so that none tells the
+/// subkey, and the others stay. One that is too short is not touched.
 pub fn make_polynomial<K: Binary>(subkey: K, scratch: &mut [K]) -> Result<K, Refusal>
     ensures value { Makes K.Binary.own K.Element (length scratch.old) subkey result }
     ensures annihilates { IfOk result

@@ -42,10 +42,11 @@ pub(crate) fn sum_powers<K: Binary>(powers: &[K], proposal: K) -> K
 /// Accepts a proposal exactly when it annihilates the subkey. The proposal's coefficient of index j is that of t^j. The highest,
 /// that of t to the kind's width, is one and not given.
 ///
-/// It refuses with `ScratchTooShort` where the scratch holds fewer elements than the kind's width (128 for blocks), and with
-/// `DoesNotAnnihilate` where the value at the subkey is not zero. The scratch is lent for this call alone: as many elements at its
-/// front as the width are zero afterwards, so that none tells the subkey, and the others stay. One that is too short is not
-/// touched.
+/// It refuses with `ScratchTooShort` (5) where the scratch holds fewer elements than the kind's width (128 blocks, 4 nibbles),
+/// and with `DoesNotAnnihilate` (3) where the proposal's value at the subkey is not zero.
+///
+/// The scratch is lent for this call alone: as many elements at its front as the width are zero afterwards, so that none tells the
+/// subkey, and the others stay. One that is too short is not touched.
 pub fn try_polynomial<K: Binary>(
     subkey: K,
     proposal: K,

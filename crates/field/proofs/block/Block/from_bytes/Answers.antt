@@ -2,7 +2,7 @@ use Rattle.std.proofs.Common.{◌≡◌, ℕ, length, get_or, sym, ap, ◌∙◌
 use Rattle.field.specs.Digits.{numeral, digits}
 use Rattle.field.specs.Kinds.{block}
 use Rattle.field.specs.Bytes.{bytes_of}
-use Rattle.field.proofs.Digits.{AreDigits, spelled, spells, digits_numeral}
+use Rattle.field.proofs.Digits.{AreDigits, spelled, spells_length, digits_numeral}
 use Rattle.field.proofs.block.Block.from_bytes.Goals as goal
 
 pub returns : goal.returns
@@ -13,7 +13,7 @@ returns c =
     let small : AreDigits 256 (lit< tt) c.args.bytes = λ k. search rules in
     let summed : c.from_be_bytes.result ≡ numeral 256 (spelled 16 at) = omega (arith, c.from_be_bytes.ensures) in
     let made : c.from_be_bytes.result ≡ numeral 256 c.args.bytes =
-    summed ∙ ap (numeral 256) (sym (spells c.args.bytes ∙ ap (λ (n : ℕ). spelled n at) long)) in
+    summed ∙ ap (numeral 256) (sym (spells_length 0 c.args.bytes 16 long)) in
     record {
       value = c.new.ensures ∙ ap block made;
       back =
