@@ -1,5 +1,5 @@
 -- Pieces fed to a job in either of its states.
-use Rattle.std.proofs.Common.{◌≡◌, ℕ, ◌+◌, ◌≤◌, true, List, [], ◌++◌, length, Ok, sym, ap, ◌∙◌, subst, MatchResult}
+use Rattle.std.proofs.Common.{◌≡◌, ℕ, ◌+◌, ◌≤◌, true, List, [], ◌++◌, length, sym, ap, ◌∙◌, subst, MatchResult}
 use Rattle.std.proofs.lemmas.Bool.{cond-true, le-leb}
 use Rattle.engine.specs.Rows.{HashesBlocks}
 use Rattle.engine.specs.declared.engine.Engine.{Ghosts}

@@ -10,8 +10,8 @@ ghost use Rattle.reading.specs.Sections.{IsCutOf, lengths_answer};
 ghost use Rattle.refusal.specs.declared.Refusal.TheVariants.{TagDiffers};
 ghost use Rattle.sealed.specs.Checking.{EngineAfter};
 
-use crate::with_engine::{Checked, WithEngine};
 use crate::hashing::hash_sections;
+use crate::with_engine::{Checked, WithEngine};
 use engine::Engine;
 use format::Lengths;
 use job::Closed;

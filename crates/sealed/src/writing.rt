@@ -55,12 +55,7 @@ fn hash_for_file<E: Engine>(
 /// It refuses a header over its limit (1), a message whose file would have more than 65,536 blocks (9), and an output that is shorter
 /// than the file (15), in this order; neither the engine nor the output is touched then. Else the engine hashes the message from zero,
 /// so that its value is the hash. The engine comes back in any case.
-pub fn write_file<E: Engine>(
-    engine: E,
-    pad: Pad,
-    message: Message,
-    output: &mut [u8],
-) -> Written<E>
+pub fn write_file<E: Engine>(engine: E, pad: Pad, message: Message, output: &mut [u8]) -> Written<E>
     ensures answer { result.answer
         ≡ answer_for (E.subkey_of engine) pad message.entry (length output.old) }
     ensures output { WritesFile

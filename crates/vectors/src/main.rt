@@ -13,6 +13,7 @@ use engines::print_long;
 use fault::Fault;
 use field::{Block, Element};
 use files::print_files;
+use message::Pad;
 use readings::{Readings, take_readings};
 use std::{env, io};
 use trials::print_trials;
@@ -70,7 +71,7 @@ fn run(rt: &HostRuntime) -> Result<(), Fault> {
     if more {
         print_files(rt)?;
     }
-    print_readings(rt, &take_readings(Block::one(), Block::new(0xff))?)?;
+    print_readings(rt, &take_readings(Block::one(), Pad(Block::new(0xff)))?)?;
     if agreeing != cases {
         return Err(Fault::Differs);
     }

@@ -1,4 +1,4 @@
-use Rattle.std.proofs.Common.{◌≡◌, ℕ, List, ◌++◌, length, drop, Result, sym, ◌∙◌, subst, MatchResult, OnOk}
+use Rattle.std.proofs.Common.{ℕ, List, length, Result, sym, ◌∙◌, subst, OnOk}
 use Rattle.field.specs.declared.block.Block.{Block}
 use Rattle.message.specs.Answer.{digest_of}
 use Rattle.message.specs.declared.digest.Digest.{Digest}
