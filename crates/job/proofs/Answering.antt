@@ -197,7 +197,8 @@ module _ {E : Type 0} (m : Ghosts E) (f : BlockBuffer E) (row : List Answer) whe
       × AnswersFrom m h can_switch before f [] calls (part_answers part can_switch calls) t
   from_beginning h can_switch before part t calls after kept all held =
       let said = all.answered h can_switch before [] held in
-      let plain : all.answers ≡ part_answers part can_switch calls = said.said ∙ ap (λ p. answers_to p can_switch [] calls) kept in (
+      let plain : all.answers ≡ part_answers part can_switch calls =
+      said.said ∙ ap (λ p. answers_to p can_switch [] calls) kept in (
         all.written ∙ ap (row_after row) plain,
         subst (λ (xs : List Answer). AnswersFrom m h can_switch before f [] calls xs t) plain said,
       )

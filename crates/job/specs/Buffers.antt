@@ -18,8 +18,8 @@ abbrev pub pending_bytes : {E : Type 0} → BlockBuffer E → List ℕ
 pending_bytes b = b.pending.items
 
 module _ {E : Type 0} (m : Ghosts E) where
-  -- The engine came with this subkey and this ready, and after the blocks before it the part has taken these bytes: T is the
-  -- evaluation of the blocks already full, and the bytes after them wait.
+  -- The engine has this subkey and this ready, and after the blocks before it the part has taken these bytes: T is the evaluation
+  -- of the blocks already full, and the bytes after them wait.
   pub record Holds (h : Block) (can_switch : Bool) (before : List Block)
       (b : BlockBuffer E) (taken : List ℕ) : Type 0 where
     pub subkey : m.subkey_of b.engine ≡ h

@@ -19,7 +19,6 @@ pub struct HeaderJob<E> {
 
 impl<E: Engine> HeaderJob<E> {
     ghost use Rattle.std.specs.Prelude.{[]};
-    ghost use Rattle.job.specs.Buffers.{Switches};
     ghost use Rattle.job.specs.Jobs.{FeedsHeader, FollowsTurn, HeaderFollows, HeaderHolds, Starts, SwitchesHeader, Turns};
     ghost use Rattle.job.specs.declared.call.Call.TheVariants.{Feed, Switch};
 
