@@ -1,7 +1,7 @@
 -- Digits in any base, and the numbers that they write.
 use Rattle.std.proofs.Common.{◌≡◌, ℕ, zero, suc, ◌+◌, ◌*◌, ◌/◌, ◌%◌, ◌^◌, ◌<◌, List, [], ◌∷◌, ◌++◌, length, get_or, sym, refl, ap, ◌∙◌, subst, ap₂, add_assoc, mod-lt, mod-eq_of_lt, mul_assoc, mul_comm, add-mul, add_comm, suc-add, mul-pos, pow-suc, div-add-mod', zero-add, zero-mul, arith, length-append, pow-add}
-use native.Mathlib.Nat.{pow-zero, mod-one, mul-add-mod_self_right, div-div-eq-div-mul}
-use lib.Arith.{digits_lt, digits_div, mod-mul}
+use Rattle.std.proofs.Math.Nat.{pow-zero, mod-one, mul-add-mod_self_right, div-div-eq-div-mul}
+use Rattle.std.proofs.Math.Arith.{digits_lt, digits_div, mod-mul}
 use Rattle.field.specs.Digits.{numeral, digits}
 
 -- a list, spelled out by its elements

@@ -1,12 +1,11 @@
 -- A number printed with zeros in front is its digits.
 use Rattle.std.proofs.Common.{◌≡◌, ℕ, zero, suc, ◌+◌, ◌-◌, ◌*◌, ◌/◌, ◌%◌, ◌^◌, ◌<◌, ◌≤◌, false, List, [], ◌∷◌, ◌++◌, length, map, lit<, refl, sym, ap, ◌∙◌, ap₂, subst, pow-suc, mul_comm, arith}
-use native.Mathlib.Nat.{pow-zero, one-mul, add-zero, div-one, zero-div, zero-mod, div-eq_of_lt, le-div_iff_mul-le, div-div-eq-div-mul}
-use mathlib.Core.Logic.{⊎_elim}
-use mathlib.Core.List.{append_assoc, append-nil, map-append}
-use lib.ListN.{replicate}
+use Rattle.std.proofs.Math.Nat.{pow-zero, one-mul, add-zero, div-one, zero-div, zero-mod, div-eq_of_lt, le-div_iff_mul-le, div-div-eq-div-mul}
+use Rattle.std.proofs.Math.Logic.{⊎_elim}
+use Rattle.std.proofs.lemmas.List.{append_assoc, append-nil, map-append}
+use Rattle.std.specs.Prelude.{replicate}
 use Rattle.std.proofs.lemmas.Nat.{div_below}
-use Rattle.std.proofs.lemmas.Bool.{cases_lt, cond-true, cond-false}
-use borrow.Author.Tests.{eq-eqb, ne_eqb}
+use Rattle.std.proofs.lemmas.Bool.{cases_lt, cond-true, cond-false, eq-eqb, ne_eqb}
 use Rattle.std.specs.Fmt.{digit_glyph, digits_onto, padded_integral, format_spec, char_count, digits as numeral}
 use Rattle.field.specs.Digits.{digits}
 use Rattle.field.specs.Texts.{digits_text}

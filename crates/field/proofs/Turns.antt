@@ -2,8 +2,9 @@
 use Rattle.std.proofs.Common.{◌≡◌, ℕ, zero, suc, ◌+◌, ◌-◌, ◌*◌, ◌/◌, ◌%◌, ◌^◌, ◌<◌, sym, ap, ◌∙◌, ap₂, mod-eq_of_lt, one-mul, zero-mul, add-one, mod-lt, pow_pos, pow-add, arith}
 use Rattle.std.proofs.Math.Arith.{digits_div}
 use Rattle.std.proofs.Math.Nat.{mul-div-mul_right}
-use Rattle.std.proofs.lemmas.Nat.{mod-pow-add}
-use lib.Bits.{bit_xor, bit_and, and_mask, and_zero_r}
+use Rattle.std.proofs.lemmas.Nat.{and_mask, mod-pow-add}
+use Rattle.std.specs.Prelude.{bit_xor, bit_and}
+use Rattle.std.specs.Int.Bits.{and_zero_r}
 use Rattle.field.specs.Binary.{FieldShape, times_bit, times_x_power, bit_product}
 
 -- a mask of ones or zeros in place of a branch

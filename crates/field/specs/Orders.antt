@@ -1,9 +1,8 @@
 -- Both orders of bits are lawful, at every width and for every modulus.
 use Rattle.std.specs.Prelude.{◌≡◌, ℕ, zero, suc, ◌+◌, ◌-◌, ◌*◌, ◌/◌, ◌%◌, ◌^◌, ◌<◌, ◌≤◌, bit_xor}
 use Rattle.std.proofs.Math.Path.{refl, sym, ap, ap₂, subst}
-use Rattle.std.proofs.Common.{◌∙◌, add-suc, suc-add, zero-add, pow-suc, mod-lt, div-one, mul_assoc, mul_comm, mul-one, zero-mul, one-mul, mul-div_cancel, add-mul, div-add-mod', lt_of_le_of_lt, le_refl, add-one, one-add, pow_pos, shr-shr}
+use Rattle.std.proofs.Common.{arith, ◌∙◌, add-suc, suc-add, zero-add, pow-suc, mod-lt, div-one, mul_assoc, mul_comm, mul-one, zero-mul, one-mul, mul-div_cancel, add-mul, div-add-mod', lt_of_le_of_lt, le_refl, add-one, one-add, pow_pos, shr-shr}
 use Rattle.std.proofs.Math.Nat.{add-zero, mod-one, mod-eq_of_lt, div-eq_of_lt, mul-mod_left}
-use native.Mathlib.Omega.{arith}
 use Rattle.std.specs.Int.Bits.{xor_comm, xor_self, xor_zero_r, xor_shifted}
 use Rattle.std.proofs.lemmas.Nat.{xor_lt, xor_shr, xor_mod, xor_block, shr_le, mod-pow-add}
 use Rattle.std.proofs.Math.Pow.{pow-lt}

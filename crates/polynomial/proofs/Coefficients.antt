@@ -2,7 +2,7 @@
 use Rattle.std.specs.Prelude.{◌≡◌, ℕ, zero, suc, ◌+◌, ◌-◌, ◌*◌, ◌/◌, ◌%◌, ◌^◌, ◌<◌, ◌≤◌, Bool, true, false, if◌then◌else◌, not, ◌==◌, bit_and, bit_xor, nat_eq, refl}
 use Rattle.std.proofs.Common.{sym, ap, ap₂, ◌∙◌, add_comm, div-one, mod-eq_of_lt, mod-lt, mul-div_cancel, one-mul, pow-suc, lt_of_lt_of_le, one-add, arith, pow_pos, shr-shr}
 use Rattle.std.proofs.Math.Nat.{div-eq_of_lt, mod-one, mul-mod_left}
-use borrow.Author.Tests.{lt-ltb}
+use Rattle.std.proofs.lemmas.Bool.{lt-ltb}
 use Rattle.std.proofs.lemmas.Nat.{and_mask, xor_lt, ones_cat, mod-pow-add}
 use Rattle.std.specs.Int.Count.{ones}
 use Rattle.std.proofs.Math.Dec.{eqb-suc-suc, eqb-suc-zero, eqb-zero-suc}
@@ -35,19 +35,19 @@ power_digit (suc s) (suc t) =
     ∙ power_digit s t
     ∙ ap (λ (b : Bool). if b then 1 else 0) (sym (eqb-suc-suc s t))
 
-turned : (d : ℕ) (b : Bool) → d < 2 → (bit_xor d (if b then 1 else 0) == 1) ≡ (if b then not (d == 1) else d == 1)
-turned zero true h = refl
-turned zero false h = refl
-turned (suc zero) true h = refl
-turned (suc zero) false h = refl
-turned (suc (suc d)) b h = absurd (omega arith)
+bit_xor-flip : (d : ℕ) (b : Bool) → d < 2 → (bit_xor d (if b then 1 else 0) == 1) ≡ (if b then not (d == 1) else d == 1)
+bit_xor-flip zero true h = refl
+bit_xor-flip zero false h = refl
+bit_xor-flip (suc zero) true h = refl
+bit_xor-flip (suc zero) false h = refl
+bit_xor-flip (suc (suc d)) b h = absurd (omega arith)
 
--- adding 2 ^ t turns the digit in place t and no other
-next_base_digit : (a s t : ℕ)
+-- adding 2 ^ t changes the digit in place t and no other
+digit-flip : (a s t : ℕ)
     → (bit_xor a (2 ^ t) / 2 ^ s % 2 == 1) ≡ (if s == t then not (a / 2 ^ s % 2 == 1) else a / 2 ^ s % 2 == 1)
-next_base_digit a s t =
+digit-flip a s t =
     ap (λ (n : ℕ). nat_eq n 1) (bit_additive s a (2 ^ t) ∙ ap (bit_xor (a / 2 ^ s % 2)) (power_digit s t))
-    ∙ turned (a / 2 ^ s % 2) (s == t) (mod-lt (a / 2 ^ s) two)
+    ∙ bit_xor-flip (a / 2 ^ s % 2) (s == t) (mod-lt (a / 2 ^ s) two)
 
 one_digit : (d : ℕ) → d < 2 → (if d == 1 then 1 else 0) ≡ ones d
 unfolding ones
@@ -96,16 +96,16 @@ module _ {V : Type 0} {shape : FieldShape} (placed : HasPlaces shape) (residues 
       ∙ ap (λ (d : ℕ). nat_eq d 1) (placed.digit number k)
 
   -- the test of one bit
-  pub tested : (k u t : ℕ) → k < shape.width → u ≡ number → t ≡ placed.place k
+  pub bit_in-test : (k u t : ℕ) → k < shape.width → u ≡ number → t ≡ placed.place k
       → (bit_and (u / 2 ^ t) 1 == 1) ≡ bit_in shape number k
-  tested k u t h e e' =
+  bit_in-test k u t h e e' =
       ap (λ (n : ℕ). nat_eq n 1) (and_mask (u / 2 ^ t) 1 ∙ ap₂ (λ (n s : ℕ). n / 2 ^ s % 2) e e') ∙ sym (bit_digit k h)
 
   -- the flip of one bit
-  pub flips : (y : V) (k u t room : ℕ) → y ≡ residues.enter (bit_xor u (1 * 2 ^ t % 2 ^ room)) → shape.width ≤ room
+  pub bit_in-flip : (y : V) (k u t room : ℕ) → y ≡ residues.enter (bit_xor u (1 * 2 ^ t % 2 ^ room)) → shape.width ≤ room
       → k < shape.width → u ≡ number → t ≡ placed.place k
       → (j : ℕ) → bit_in shape (residues.value y) j ≡ bits_after_flip shape.width (bit_in shape number) k j
-  flips y k u t room made wide h e e' j =
+  bit_in-flip y k u t room made wide h e e' j =
       let place : ℕ = placed.place k in
       let one : 1 * 2 ^ t % 2 ^ room ≡ 2 ^ place =
       ap (λ (s : ℕ). 1 * 2 ^ s % 2 ^ room) e' ∙ ap (λ (n : ℕ). n % 2 ^ room) (one-mul (2 ^ place))
@@ -117,13 +117,13 @@ module _ {V : Type 0} {shape : FieldShape} (placed : HasPlaces shape) (residues 
       let after : shape.digit (residues.value y) j ≡ bit_xor number (2 ^ place) / 2 ^ placed.place j % 2 =
       placed.digit (residues.value y) j ∙ ap (λ (n : ℕ). n / 2 ^ placed.place j % 2) whole in
       let before = placed.digit number j in
-      let turn = next_base_digit number (placed.place j) place in
+      let turn = digit-flip number (placed.place j) place in
       let apart = placed.apart j k in
       grind (arith, nat_tests)
 
   -- the count of the ones
-  pub weighed : (w : ℕ) → w ≡ ones number → w ≡ ones_below shape.width (bit_in shape number)
-  weighed w e =
+  pub ones_below-count : (w : ℕ) → w ≡ ones number → w ≡ ones_below shape.width (bit_in shape number)
+  ones_below-count w e =
       e ∙ ap ones (sym (mod-eq_of_lt (residues.fits x))) ∙ sym (ones_low shape.width number)
       ∙ sym (placed.every (λ s. nat_eq (number / 2 ^ s % 2) 1))
       ∙ sym (same_ones shape.width (bit_in shape number) (λ k. nat_eq (number / 2 ^ placed.place k % 2) 1) bit_digit)

@@ -77,29 +77,30 @@ module _ {K : Type 0} (m : Ghosts K) (laws : CommutativeRing m.zero m.one m.sum 
       let factor : K = m.sum r (power m r (2 ^ suc n)) in
       ap (m.product factor) (factors_vanish even r n) ∙ product_zero m laws factor
 
-  chosen : (b : Bool) (p : K) → m.product (element m b) p ≡ (if b then p else m.zero)
-  chosen true p = one_product p
-  chosen false p = zero_product m laws p
+  product-element : (b : Bool) (p : K) → m.product (element m b) p ≡ (if b then p else m.zero)
+  product-element true p = one_product p
+  product-element false p = zero_product m laws p
 
   -- one power more, taken only where its bit is one
-  taken : (b : Bool) (p s v : K) (k : ℕ) (rest : List (ℕ × K)) → ((t : K) → fold (λ t x. m.sum t x.1) t rest ≡ m.sum t v)
+  fold-bit : (b : Bool) (p s v : K) (k : ℕ) (rest : List (ℕ × K)) → ((t : K) → fold (λ t x. m.sum t x.1) t rest ≡ m.sum t v)
       → fold (λ t x. m.sum t x.1) s (if b then (k, p) ∷ rest else rest) ≡ m.sum s (m.sum (m.product (element m b) p) v)
-  taken true p s v k rest more = more (m.sum s p) ∙ laws.sum_assoc s p v ∙ ap (λ q. m.sum s (m.sum q v)) (sym (chosen true p))
-  taken false p s v k rest more =
-      more s ∙ ap (m.sum s) (sym (zero_sum m laws v)) ∙ ap (λ q. m.sum s (m.sum q v)) (sym (chosen false p))
+  fold-bit true p s v k rest more =
+      more (m.sum s p) ∙ laws.sum_assoc s p v ∙ ap (λ q. m.sum s (m.sum q v)) (sym (product-element true p))
+  fold-bit false p s v k rest more =
+      more s ∙ ap (m.sum s) (sym (zero_sum m laws v)) ∙ ap (λ q. m.sum s (m.sum q v)) (sym (product-element false p))
 
-  taken_from : (bits : ℕ → Bool) (r : K) (n j : ℕ) (s : K)
+  fold-filter_bits : (bits : ℕ → Bool) (r : K) (n j : ℕ) (s : K)
       → fold (λ t x. m.sum t x.1) s (filter (λ x. bits x.0) (enumerate_from j (map (power m r) (range_with_len j n))))
       ≡ m.sum s (value_from m r j (map (λ k. element m (bits k)) (range_with_len j n)))
-  taken_from bits r zero j s = sym (laws.sum_zero s)
-  taken_from bits r (suc n) j s =
+  fold-filter_bits bits r zero j s = sym (laws.sum_zero s)
+  fold-filter_bits bits r (suc n) j s =
       let cs : List K = map (λ k. element m (bits k)) (range_with_len (j + 1) n) in
-      taken (bits j) (power m r j) s (value_from m r (suc j) cs) j
+      fold-bit (bits j) (power m r j) s (value_from m r (suc j) cs) j
       (filter (λ x. bits x.0) (enumerate_from (j + 1) (map (power m r) (range_with_len (j + 1) n))))
-      (λ t. taken_from bits r n (j + 1) t ∙ ap (λ i. m.sum t (value_from m r i cs)) (add-suc j 0 ∙ ap suc (add-zero j)))
+      (λ t. fold-filter_bits bits r n (j + 1) t ∙ ap (λ i. m.sum t (value_from m r i cs)) (add-suc j 0 ∙ ap suc (add-zero j)))
 
   -- a proposal's value is the sum of the powers where it has a one
   pub coefficients_value : (bits : ℕ → Bool) (r : K) (n : ℕ)
       → fold (λ t x. m.sum t x.1) m.zero (filter (λ x. bits x.0) (enumerate_from 0 (power_list m r n))) ≡ lower_value m n bits r
   unfolding coefficient_list
-  coefficients_value bits r n = taken_from bits r n 0 m.zero ∙ zero_sum m laws (value_at m r (coefficient_list m n bits))
+  coefficients_value bits r n = fold-filter_bits bits r n 0 m.zero ∙ zero_sum m laws (value_at m r (coefficient_list m n bits))

@@ -1,5 +1,5 @@
 // A polynomial that passed its trial, or that the maker made: its type says that it annihilates its subkey.
-ghost use Rattle.std.specs.Prelude.{◌≡◌, ⊤};
+ghost use Rattle.std.specs.Prelude.{◌≡◌, ⊤, length};
 ghost use Rattle.polynomial.specs.Polynomials.{Annihilates};
 
 use crate::binary::Binary;
@@ -29,7 +29,6 @@ impl<K: Binary> Clone for Accepted<K> {
 impl<K: Binary> Copy for Accepted<K> {}
 
 impl<K: Binary> Accepted<K> {
-    ghost use Rattle.std.specs.Prelude.{length};
     ghost use Rattle.polynomial.specs.Outcomes.{MakesAccepted, scratch_after};
 
     /// The maker's polynomial of this subkey, which annihilates it, so that no trial has to follow.

@@ -1,5 +1,5 @@
 use Rattle.std.proofs.Common.{ℕ, ◌^◌, ◌<◌, sym, refl, ap, ◌∙◌, subst}
-use lib.Bits.{bit_xor}
+use Rattle.std.specs.Prelude.{bit_xor}
 use Rattle.field.specs.Binary.{FieldShape, times_bit, bit_product, times_x_power}
 use Rattle.field.specs.Products.{times_x_power_fits, bit_product_fits}
 use Rattle.field.proofs.Turns.{one_more_term, one_more_power}
