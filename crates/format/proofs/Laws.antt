@@ -79,7 +79,10 @@ module _ (subkey pad : Block) (header body : List ℕ) where
       ap (numeral 256) (sealed_tag subkey pad header body)
       ∙ numeral_digits 256 (lit< tt) 16 t.bits
       ∙ mod-eq_of_lt t.fits
-      ∙ sym (ap₂ (λ (h b : List ℕ). (tag_of subkey pad h b).bits) (sealed_header subkey pad header body) (sealed_body subkey pad header body)) in
+      ∙ sym
+      (ap₂ (λ (h b : List ℕ). (tag_of subkey pad h b).bits)
+      (sealed_header subkey pad header body)
+      (sealed_body subkey pad header body)) in
       grind (arith, nat_tests, right)
       ∙ ap₂ (λ (h b : List ℕ). Ok (lengths_of h b)) (sealed_header subkey pad header body) (sealed_body subkey pad header body)
 

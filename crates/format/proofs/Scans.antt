@@ -121,7 +121,8 @@ pub data_cons : (kind : ℕ) (b : List ℕ) (bs : List (List ℕ))
     → data_of kind (b ∷ bs) ≡ cond (eqb (kind_in b) kind) (data_in b ++ data_of kind bs) (data_of kind bs)
 data_cons kind b bs = by_kind (eqb (kind_in b) kind) where
   by_kind : (is : Bool)
-      → concat (map data_in (cond is (b ∷ blocks_of_kind kind bs) (blocks_of_kind kind bs))) ≡ cond is (data_in b ++ data_of kind bs) (data_of kind bs)
+      → concat (map data_in (cond is (b ∷ blocks_of_kind kind bs) (blocks_of_kind kind bs)))
+      ≡ cond is (data_in b ++ data_of kind bs) (data_of kind bs)
   by_kind true = refl
   by_kind false = refl
 
