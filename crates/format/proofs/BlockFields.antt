@@ -196,7 +196,9 @@ module _ (x y kind reserve z w : ℕ) (rest : List ℕ) where
 pub front_again : (b : List ℕ) → length b ≡ 512 → AreBytes b → is_form_good b ≡ true
     → take 508 b ≡ checked_bytes (number_in b) (content_of b)
 front_again b long small good =
-    subst (λ (xs : List ℕ). length xs ≡ 512 → AreBytes xs → is_form_good xs ≡ true → take 508 xs ≡ checked_bytes (number_in xs) (content_of xs))
+    subst
+    (λ (xs : List ℕ). length xs ≡ 512 → AreBytes xs → is_form_good xs ≡ true
+    → take 508 xs ≡ checked_bytes (number_in xs) (content_of xs))
     (sym (heads 6 b (omega arith)))
     (front_of_six (get_or b 0 0) (get_or b 1 0) (get_or b 2 0) (get_or b 3 0) (get_or b 4 0) (get_or b 5 0) (drop 6 b))
     long small good

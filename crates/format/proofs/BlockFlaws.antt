@@ -1,6 +1,6 @@
 -- The fault of a block, by its flaws.
-use Rattle.std.proofs.Common.{◌≡◌, ℕ, ◌<◌, Bool, true, false, cond, eqb, List, take, Some, None, Option, refl, ◌⊎◌, inl, inr, arith}
-use Rattle.std.specs.Prelude.{All}
+use Rattle.std.proofs.Common.{◌≡◌, ℕ, ◌<◌, Bool, true, false, eqb, List, take, Some, None, Option, refl, ◌⊎◌, inl, inr, arith}
+use Rattle.std.specs.Prelude.{All, if◌then◌else◌}
 use Rattle.std.specs.Bool.{Decides}
 use Rattle.std.proofs.lemmas.Bool.{cases_Bool, false_from_ne_true}
 use Rattle.std.proofs.lemmas.Bool.Decides.{nat_tests, Decides-by_and, Decides-eqb, not_from_Decides}
@@ -91,11 +91,30 @@ module _ (test : Flaw → Bool) where
       elim (cases_Bool (test check)) [
         | inr a ↦ inr (check, record { failed = a; earlier = λ other less. absurd (omega arith) })
         | inl a ↦ elim (cases_Bool (test number)) [
-          | inr b ↦ inr (number, record { failed = b; earlier = turns_below 1 Held (λ l. a) (λ l. absurd (omega arith)) (λ l. absurd (omega arith)) (λ l. absurd (omega arith)) })
+          | inr b ↦ inr (
+            number,
+            record {
+              failed = b;
+              earlier =
+                  turns_below 1 Held (λ l. a) (λ l. absurd (omega arith)) (λ l. absurd (omega arith)) (λ l. absurd (omega arith));
+            },
+          )
           | inl b ↦ elim (cases_Bool (test form)) [
-            | inr c ↦ inr (form, record { failed = c; earlier = turns_below 2 Held (λ l. a) (λ l. b) (λ l. absurd (omega arith)) (λ l. absurd (omega arith)) })
+            | inr c ↦ inr (
+              form,
+              record {
+                failed = c;
+                earlier = turns_below 2 Held (λ l. a) (λ l. b) (λ l. absurd (omega arith)) (λ l. absurd (omega arith));
+              },
+            )
             | inl c ↦ elim (cases_Bool (test order)) [
-              | inr d ↦ inr (order, record { failed = d; earlier = turns_below 3 Held (λ l. a) (λ l. b) (λ l. c) (λ l. absurd (omega arith)) })
+              | inr d ↦ inr (
+                order,
+                record {
+                  failed = d;
+                  earlier = turns_below 3 Held (λ l. a) (λ l. b) (λ l. c) (λ l. absurd (omega arith));
+                },
+              )
               | inl d ↦ inl (every_flaw Held a b c d)
             ]
           ]
@@ -105,7 +124,15 @@ module _ (test : Flaw → Bool) where
   -- the answer of four tests in turn
   abbrev fault_by : ℕ → Option Refusal
   fault_by k =
-      cond (test check) (cond (test number) (cond (test form) (cond (test order) None (Some (WrongOrder k))) (Some (WrongForm k))) (Some (WrongNumber k))) (Some (WrongCheck k))
+      if test check
+      then if test number
+      then if test form
+      then if test order
+      then None
+      else Some (WrongOrder k)
+      else Some (WrongForm k)
+      else Some (WrongNumber k)
+      else Some (WrongCheck k)
 
   none_failed : (k : ℕ) → ((flaw : Flaw) → Held flaw) → fault_by k ≡ None
   none_failed k all = rw (all check, all number, all form, all order)

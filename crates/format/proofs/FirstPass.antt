@@ -46,7 +46,8 @@ module _ (file : List ℕ) where
   other_pass e stopped =
       elim (pass_or_fault file) [
         | inr f ↦
-            subst (λ (o : Refusal). eqb (refusal_number o) 8 ≡ false) (one_reason (first_refuses f.0 f.1) stopped) (scan_fault_other file f.0 f.1)
+            subst (λ (o : Refusal). eqb (refusal_number o) 8 ≡ false) (one_reason (first_refuses f.0 f.1) stopped)
+            (scan_fault_other file f.0 f.1)
         | inl pass ↦ elim (cases_lt 65535 (length (header_in file))) [
           | inl long ↦ subst (λ (o : Refusal). eqb (refusal_number o) 8 ≡ false) (one_reason (too_long pass long) stopped) refl
           | inr short ↦ absurd (not_both (first_passes pass short) stopped)

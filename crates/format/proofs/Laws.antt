@@ -13,7 +13,7 @@ use Rattle.message.specs.Blocks.{AreBytes}
 use Rattle.message.specs.Hash.{tag_of}
 use Rattle.message.specs.declared.digest.Pad.{Pad}
 use Rattle.refusal.specs.declared.Refusal.TheVariants.{TagDiffers}
-use Rattle.format.specs.Layout.{Content, file_contents, numbered_blocks, sealed_file, blocks_for}
+use Rattle.format.specs.Layout.{Content, file_contents, blocks_from, numbered_blocks, sealed_file, blocks_for}
 use Rattle.format.specs.Faults.{no_predecessor, blocks_of, is_size_good, scan_result, data_of, header_in, body_in, tag_in}
 use Rattle.format.specs.Verdict.{lengths_of, lengths_in, first_pass, tag_verdict, verdict, IsSealOf, Exact, Reopens}
 use Rattle.format.specs.Flaws.{HasFileSize}
@@ -22,7 +22,7 @@ use Rattle.format.proofs.BlockFields.{content_of}
 use Rattle.format.proofs.Sequences.{Follows, part_of, Whole, in_order, contents_follow, header_part, body_part, tag_part, length_contents}
 use Rattle.format.proofs.Results.{came, test_passed, value_of, if_value}
 use Rattle.format.proofs.FirstPass.{Passed, passed}
-use Rattle.format.proofs.Scans.{scan_numbered, laid_blocks, length_numbered_all, laid_chunks, laid_contents, laid_scan, data_part, read_small}
+use Rattle.format.proofs.Scans.{scan_numbered, length_numbered_all, laid_chunks, laid_contents, laid_scan, data_part, read_small}
 
 -- ---- what is read out of a sealed file
 
@@ -45,7 +45,7 @@ module _ (subkey : Block) (pad : Pad) (header body : List ℕ) where
   length_sealed = length_carried ∙ ap (λ (n : ℕ). 512 * n) (length_contents header body tag)
 
   -- its blocks are those that were laid out
-  pub blocks_sealed : blocks_of (sealed_file subkey pad header body) ≡ laid_blocks 0 carried
+  pub blocks_sealed : blocks_of (sealed_file subkey pad header body) ≡ blocks_from 0 carried
   unfolding blocks_of sealed_file
   blocks_sealed =
       let long : length (numbered_blocks 0 carried) ≡ 512 * length carried = length_carried in
@@ -56,7 +56,7 @@ module _ (subkey : Block) (pad : Pad) (header body : List ℕ) where
   data_sealed : (kind : ℕ) → data_of kind (blocks_of (sealed_file subkey pad header body)) ≡ part_of kind carried
   data_sealed kind =
       ap (data_of kind) blocks_sealed
-      ∙ data_part kind (laid_blocks 0 carried)
+      ∙ data_part kind (blocks_from 0 carried)
       ∙ ap (part_of kind) (laid_contents 0 no_predecessor carried carried_follow)
 
   pub sealed_header : header_in (sealed_file subkey pad header body) ≡ header
@@ -80,7 +80,10 @@ module _ (subkey : Block) (pad : Pad) (header body : List ℕ) where
       ap (numeral 256) (sealed_tag subkey pad header body)
       ∙ numeral_digits 256 (lit< tt) 16 t.bits
       ∙ mod-eq_of_lt t.fits
-      ∙ sym (ap₂ (λ (h b : List ℕ). (tag_of subkey pad h b).0.bits) (sealed_header subkey pad header body) (sealed_body subkey pad header body)) in
+      ∙ sym
+      (ap₂ (λ (h b : List ℕ). (tag_of subkey pad h b).0.bits)
+      (sealed_header subkey pad header body)
+      (sealed_body subkey pad header body)) in
       grind (arith, nat_tests, right)
       ∙ ap₂ (λ (h b : List ℕ). Ok (lengths_of h b)) (sealed_header subkey pad header body) (sealed_body subkey pad header body)
 

@@ -28,7 +28,9 @@ module _ (piece more : List ℕ) (some : 1 ≤ length piece) (next : Next 502 pi
       let count : piece_count (length (piece ++ more)) ≡ suc (piece_count (length more)) =
       elim next [ inl full ↦ omega arith | inr short ↦ omega arith ] in
       ap (λ (n : ℕ). first_chunks 502 n (piece ++ more)) count
-      ∙ ap₂ (λ (p ys : List ℕ). p ∷ first_chunks 502 (piece_count (length more)) ys) (take_next 502 piece more next) (drop_next 502 piece more next)
+      ∙ ap₂ (λ (p ys : List ℕ). p ∷ first_chunks 502 (piece_count (length more)) ys)
+      (take_next 502 piece more next)
+      (drop_next 502 piece more next)
 
 concat-first_chunks : (n : ℕ) (bytes : List ℕ) → length bytes ≤ 502 * n → concat (first_chunks 502 n bytes) ≡ bytes
 concat-first_chunks zero bytes within = sym (nil_from_length bytes (omega arith))

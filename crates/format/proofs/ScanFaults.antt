@@ -17,18 +17,22 @@ use Rattle.format.proofs.BlockFlaws.{refusal_of, sound_or_flawed, block_passes, 
 
 -- ---- block by block
 
+-- the scan of the m blocks that follow the first k
+abbrev scan_past : ℕ → ℕ → List ℕ → Result Predecessor Refusal
+scan_past k m file = scan_result k (predecessor_at file k) (first_chunks 512 m (drop (512 * k) file))
+
 -- one block with no flaw
-scan_step : (k m : ℕ) (file : List ℕ) → HasNoFlaw file k
-    → scan_result k (predecessor_at file k) (first_chunks 512 (suc m) (drop (512 * k) file)) ≡ scan_result (suc k) (predecessor_at file (suc k)) (first_chunks 512 m (drop (512 * suc k) file))
+scan_step : (k m : ℕ) (file : List ℕ) → HasNoFlaw file k → scan_past k (suc m) file ≡ scan_past (suc k) m file
 scan_step k m file sound =
     let further : 512 * k + 512 ≡ 512 * suc k = omega arith in
     let rest : drop 512 (drop (512 * k) file) ≡ drop (512 * suc k) file =
     drop-drop 512 (512 * k) file ∙ ap (λ (j : ℕ). drop j file) further in
-    λ i. refusal_or (block_passes file k sound i) (scan_result (suc k) (as_predecessor (block_at file k)) (first_chunks 512 m (rest i)))
+    let block : List ℕ = block_at file k in
+    λ i. refusal_or (block_passes file k sound i) (scan_result (suc k) (as_predecessor block) (first_chunks 512 m (rest i)))
 
 -- k blocks with no flaw
 pub scan_from : (k m n : ℕ) (file : List ℕ) → k + m ≡ n → ((j : ℕ) → j < k → HasNoFlaw file j)
-    → scan_result 0 no_predecessor (first_chunks 512 n file) ≡ scan_result k (predecessor_at file k) (first_chunks 512 m (drop (512 * k) file))
+    → scan_result 0 no_predecessor (first_chunks 512 n file) ≡ scan_past k m file
 scan_from zero m n file all sound =
     let same : n ≡ m = omega arith in ap (λ (j : ℕ). scan_result 0 no_predecessor (first_chunks 512 j file)) same
 scan_from (suc k) m n file all sound =
@@ -47,8 +51,10 @@ unfolding blocks_of
 scan_flawed file k flaw f =
     let within : k < block_count file = f.within in
     let m : ℕ = block_count file - suc k in
+    let more : List (List ℕ) = first_chunks 512 m (drop 512 (drop (512 * k) file)) in
     scan_from k (suc m) (block_count file) file (omega arith) f.before
-    ∙ ap (λ (o : Option Refusal). refusal_or o (scan_result (suc k) (as_predecessor (block_at file k)) (first_chunks 512 m (drop 512 (drop (512 * k) file))))) (first_fault file k flaw f.here)
+    ∙ ap (λ (o : Option Refusal). refusal_or o (scan_result (suc k) (as_predecessor (block_at file k)) more))
+    (first_fault file k flaw f.here)
 
 -- the first n blocks have no flaw, or one of them is the first that has
 flaw_below : (n : ℕ) (file : List ℕ) → HasFileSize file → n ≤ block_count file

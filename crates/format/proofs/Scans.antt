@@ -8,7 +8,7 @@ use Rattle.std.specs.Simd.{first_chunks}
 use Rattle.message.specs.Blocks.{AreBytes}
 use Rattle.message.proofs.StandardHash.{small_append, small_take, small_drop}
 use Rattle.refusal.specs.declared.Refusal.{Refusal}
-use Rattle.format.specs.Layout.{Content, check_of, block_bytes, numbered_blocks}
+use Rattle.format.specs.Layout.{Content, check_of, block_bytes, blocks_from, numbered_blocks}
 use Rattle.format.specs.Faults.{Predecessor, as_predecessor, number_in, kind_in, used_length_in, data_in, stored_check, is_form_good, is_order_good, fault_of, refusal_or, blocks_of, scan_result, blocks_of_kind, data_of}
 use Rattle.format.proofs.BlockFields.{Fit, content_of, content_fits, block_again, kind_numbered, number_numbered, used_numbered, front_numbered, check_numbered, form_numbered, length_numbered, content_numbered}
 use Rattle.format.proofs.Sequences.{shown, Follows, part_of}
@@ -67,11 +67,6 @@ scan_numbered (suc m) k p last file long small e end =
 
 -- ---- blocks that are laid out
 
--- the blocks of contents, with numbers from k on
-abbrev pub laid_blocks : ℕ → List Content → List (List ℕ)
-laid_blocks k [] = []
-laid_blocks k (c ∷ cs) = block_bytes k c ∷ laid_blocks (suc k) cs
-
 pub length_numbered_all : (k : ℕ) (p : Predecessor) (cs : List Content) → Follows p cs
     → length (numbered_blocks k cs) ≡ 512 * length cs
 length_numbered_all k p [] f = refl
@@ -82,7 +77,7 @@ length_numbered_all k p (c ∷ cs) f =
 
 -- cut at 512 bytes, they are the blocks again
 pub laid_chunks : (k : ℕ) (p : Predecessor) (cs : List Content) → Follows p cs
-    → first_chunks 512 (length cs) (numbered_blocks k cs) ≡ laid_blocks k cs
+    → first_chunks 512 (length cs) (numbered_blocks k cs) ≡ blocks_from k cs
 laid_chunks k p [] f = refl
 laid_chunks k p (c ∷ cs) f =
     let wide : length (block_bytes k c) ≡ 512 = length_numbered k c f.fit in
@@ -92,7 +87,7 @@ laid_chunks k p (c ∷ cs) f =
     ∙ laid_chunks (suc k) (shown c) cs f.rest)
 
 -- they say the contents that they carry
-pub laid_contents : (k : ℕ) (p : Predecessor) (cs : List Content) → Follows p cs → map content_of (laid_blocks k cs) ≡ cs
+pub laid_contents : (k : ℕ) (p : Predecessor) (cs : List Content) → Follows p cs → map content_of (blocks_from k cs) ≡ cs
 laid_contents k p [] f = refl
 laid_contents k p (c ∷ cs) f =
     ap₂ (λ (d : Content) (ds : List Content). d ∷ ds) (content_numbered k c f.fit) (laid_contents (suc k) (shown c) cs f.rest)
@@ -107,7 +102,7 @@ numbered_no_fault k p c fit order below =
 
 -- a scan of contents in order meets no fault and ends at an end block
 pub laid_scan : (k : ℕ) (p : Predecessor) (cs : List Content) → Follows p cs → k + length cs ≤ 65536
-    → (last : Predecessor) × (scan_result k p (laid_blocks k cs) ≡ Ok last) × (last.kind ≡ 3)
+    → (last : Predecessor) × (scan_result k p (blocks_from k cs) ≡ Ok last) × (last.kind ≡ 3)
 laid_scan k p [] f limit = (p, refl, f)
 laid_scan k p (c ∷ cs) f limit =
     let rest = laid_scan (suc k) (shown c) cs f.rest (omega arith) in
@@ -115,7 +110,7 @@ laid_scan k p (c ∷ cs) f limit =
     let before : as_predecessor (block_bytes k c) ≡ shown c =
     λ i. record { kind = kind_numbered k c i; used = used_numbered k c f.fit i } in (
       rest.0,
-      (λ i. refusal_or (none i) (scan_result (suc k) (before i) (laid_blocks (suc k) cs))) ∙ rest.1,
+      (λ i. refusal_or (none i) (scan_result (suc k) (before i) (blocks_from (suc k) cs))) ∙ rest.1,
       rest.2,
     )
 
@@ -126,7 +121,8 @@ pub data_cons : (kind : ℕ) (b : List ℕ) (bs : List (List ℕ))
     → data_of kind (b ∷ bs) ≡ cond (eqb (kind_in b) kind) (data_in b ++ data_of kind bs) (data_of kind bs)
 data_cons kind b bs = by_kind (eqb (kind_in b) kind) where
   by_kind : (is : Bool)
-      → concat (map data_in (cond is (b ∷ blocks_of_kind kind bs) (blocks_of_kind kind bs))) ≡ cond is (data_in b ++ data_of kind bs) (data_of kind bs)
+      → concat (map data_in (cond is (b ∷ blocks_of_kind kind bs) (blocks_of_kind kind bs)))
+      ≡ cond is (data_in b ++ data_of kind bs) (data_of kind bs)
   by_kind true = refl
   by_kind false = refl
 

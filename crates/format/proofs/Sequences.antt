@@ -80,11 +80,15 @@ first_piece c cs fit f =
 abbrev pub Whole : List Content → Type 0
 Whole cs = (cs ≡ file_contents (part_of 1 cs) (part_of 2 cs) (part_of 3 cs)) × (length (part_of 3 cs) ≡ 16)
 
+-- what a file carries, by the pieces of both parts
+abbrev of_pieces : List (List ℕ) → List (List ℕ) → List ℕ → List Content
+of_pieces headers bodies tag = map (content 1) headers ++ (map (content 2) bodies ++ (content 3 tag ∷ []))
+
 -- with no header, the body comes first
 contents_body_first : (header body tag : List ℕ) → length header ≡ 0
     → file_contents header body tag ≡ map (content 2) (data_pieces body) ++ (content 3 tag ∷ [])
 contents_body_first header body tag none =
-    ap (λ (ps : List (List ℕ)). map (content 1) ps ++ (map (content 2) (data_pieces body) ++ (content 3 tag ∷ []))) (pieces_none header none)
+    ap (λ (ps : List (List ℕ)). of_pieces ps (data_pieces body) tag) (pieces_none header none)
 
 -- with no header and no body, only the tag is left
 contents_tag_only : (tag : List ℕ) → file_contents [] [] tag ≡ content 3 tag ∷ []
@@ -99,15 +103,15 @@ whole_kinds zero bytes cs fit f more = absurd (omega (arith, fit.low))
 whole_kinds (suc zero) bytes cs fit f more =
     let rest : Whole cs = more (omega arith) in (
       ap (λ (ds : List Content). content 1 bytes ∷ ds) rest.0
-          ∙ sym (ap (λ (ps : List (List ℕ)). map (content 1) ps ++ (map (content 2) (data_pieces (part_of 2 cs)) ++ (content 3 (part_of 3 cs) ∷ [])))
+          ∙ sym (ap (λ (ps : List (List ℕ)). of_pieces ps (data_pieces (part_of 2 cs)) (part_of 3 cs))
           (first_piece (content 1 bytes) cs fit f)),
       rest.1,
     )
 whole_kinds (suc (suc zero)) bytes cs fit f more =
     let rest : Whole cs = more (omega arith) in
     let none : length (part_of 1 cs) ≡ 0 = ap length (none_later 1 (shown (content 2 bytes)) cs f (omega arith)) in (
-      ap (λ (ds : List Content). content 2 bytes ∷ ds) (rest.0
-          ∙ contents_body_first (part_of 1 cs) (part_of 2 cs) (part_of 3 cs) none)
+      ap (λ (ds : List Content). content 2 bytes ∷ ds)
+          (rest.0 ∙ contents_body_first (part_of 1 cs) (part_of 2 cs) (part_of 3 cs) none)
           ∙ sym (contents_body_first (part_of 1 cs) (bytes ++ part_of 2 cs) (part_of 3 cs) none
           ∙ ap (λ (ps : List (List ℕ)). map (content 2) ps ++ (content 3 (part_of 3 cs) ∷ []))
           (first_piece (content 2 bytes) cs fit f)),
@@ -134,7 +138,8 @@ end_follows tag sixteen p before = record {
   rest = refl;
 }
 
-module _ (kind : ℕ) (low : 1 ≤ kind) (high : kind ≤ 2) (others : List Content) (after : (q : Predecessor) → q.kind ≤ kind → Follows q others) where
+module _ (kind : ℕ) (low : 1 ≤ kind) (high : kind ≤ 2) (others : List Content)
+    (after : (q : Predecessor) → q.kind ≤ kind → Follows q others) where
   -- a block of this kind may stand after a lower kind, or a full block of this kind
   in_place : (p : Predecessor) → p.kind ≤ kind → (p.kind ≡ kind → 502 ≤ p.used) → is_order_good p kind ≡ true
   in_place p before full = grind (arith, nat_tests)
@@ -155,7 +160,8 @@ module _ (kind : ℕ) (low : 1 ≤ kind) (high : kind ≤ 2) (others : List Cont
         fit = record { low = low; high = omega arith; used = used_good (length (take 502 part)) (omega arith) (omega arith) };
         order = in_place p before (full some);
         rest =
-            cut_follows n (drop 502 part) (omega arith) (shown (content kind (take 502 part))) (omega arith) (λ more same. omega arith);
+            cut_follows n (drop 502 part) (omega arith) (shown (content kind (take 502 part)))
+            (omega arith) (λ more same. omega arith);
       }
 
   -- after a lower kind, the pieces of a whole part

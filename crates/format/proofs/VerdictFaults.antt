@@ -57,7 +57,8 @@ module _ (subkey : Block) (pad : Pad) (file : List ℕ) where
         | inr f ↦ subst (IsFault subkey pad file) (one_reason (stopped f.0 (first_refuses file f.0 f.1)) refused) (of_scan f.0 f.1)
         | inl pass ↦ elim (cases_lt 65535 (length (header_in file))) [
           | inl long ↦
-              subst (IsFault subkey pad file) (one_reason (stopped HeaderTooLong (too_long file pass long)) refused) (record { scan = pass; long = long })
+              subst (IsFault subkey pad file) (one_reason (stopped HeaderTooLong (too_long file pass long)) refused)
+              (record { scan = pass; long = long })
           | inr short ↦ elim (cases_Bool is_tag_same) [
             | inl same ↦ absurd (not_both (tag_looked_at pass short true same) refused)
             | inr differs ↦

@@ -1,5 +1,6 @@
 -- The sealed file: blocks of 512 bytes, laid one after another.
 use Rattle.std.specs.Prelude.{ℕ, suc, ◌+◌, ◌-◌, ◌/◌, List, [], ◌∷◌, ◌++◌, map, length, replicate}
+use Rattle.std.specs.List.{concat}
 use Rattle.std.specs.Simd.{first_chunks}
 use Rattle.field.specs.Bytes.{bytes_of, word_of}
 use Rattle.field.specs.Digits.{digits}
@@ -101,10 +102,14 @@ file_contents header body tag =
     ++ (map (content body_kind) (data_pieces body)
     ++ (content end_kind tag ∷ []))
 
--- blocks with numbers from n on
+-- the blocks that carry these contents, with numbers from n on
+abbrev pub blocks_from : ℕ → List Content → List (List ℕ)
+blocks_from n [] = []
+blocks_from n (c ∷ cs) = block_bytes n c ∷ blocks_from (suc n) cs
+
+-- and their bytes, block after block
 abbrev pub numbered_blocks : ℕ → List Content → List ℕ
-numbered_blocks n [] = []
-numbered_blocks n (c ∷ cs) = block_bytes n c ++ numbered_blocks (suc n) cs
+numbered_blocks n cs = concat (blocks_from n cs)
 
 -- the file that seals a header and a body under a subkey and a pad
 unfoldable pub sealed_file : Block → Pad → List ℕ → List ℕ → List ℕ

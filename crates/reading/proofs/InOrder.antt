@@ -1,5 +1,5 @@
 -- The blocks of a scan without fault stand in the order of their kinds.
-use Rattle.std.proofs.Common.{◌≡◌, ℕ, suc, ◌<◌, ◌≤◌, true, false, cond, eqb, List, [], ◌∷◌, ◌++◌, map, length, take, drop, Ok, sym, refl, ap, ◌∙◌, inl, inr, arith, length-append, append-nil}
+use Rattle.std.proofs.Common.{◌≡◌, ℕ, suc, ◌<◌, ◌≤◌, Bool, true, false, cond, eqb, List, [], ◌∷◌, ◌++◌, map, length, take, drop, Ok, sym, refl, ap, ◌∙◌, inl, inr, arith, length-append, append-nil}
 use Rattle.std.proofs.lemmas.Bool.{cases_lt, cond-true, cond-false, eq-eqb, ne_eqb}
 use Rattle.std.proofs.lemmas.Bool.Decides.{nat_tests}
 use Rattle.std.proofs.lemmas.List.{take_at, drop_at}
@@ -34,6 +34,10 @@ none_after_end k p q (b ∷ bs) done end =
     let on = went_on (fault_of k p b) (scan_result (suc k) (as_predecessor b) bs) q done in
     absurd (not_past_end p (kind_in b) (faultless k p b on.0).order end)
 
+-- a block in front of others, where a test holds
+abbrev put : Bool → List ℕ → List (List ℕ) → List (List ℕ)
+put is b bs = cond is (b ∷ bs) bs
+
 -- header blocks, body blocks, end block
 pub in_order : (k : ℕ) (p q : Predecessor) (bs : List (List ℕ)) → scan_result k p bs ≡ Ok q
     → bs ≡ blocks_of_kind 1 bs ++ (blocks_of_kind 2 bs ++ blocks_of_kind 3 bs)
@@ -53,7 +57,7 @@ in_order k p q (b ∷ bs) done =
           let no_body : eqb (kind_in b) 2 ≡ false = ne_eqb (kind_in b) 2 (λ same. omega (arith, same, header)) in
           let no_end : eqb (kind_in b) 3 ≡ false = ne_eqb (kind_in b) 3 (λ same. omega (arith, same, header)) in
           ap (λ (xs : List (List ℕ)). b ∷ xs) later
-          ∙ sym (λ i. cond (is i) (b ∷ headers) headers ++ (cond (no_body i) (b ∷ bodies) bodies ++ cond (no_end i) (b ∷ ends) ends))
+          ∙ sym (λ i. put (is i) b headers ++ (put (no_body i) b bodies ++ put (no_end i) b ends))
       | inr past_header ↦
           let no_header : eqb (kind_in b) 1 ≡ false = ne_eqb (kind_in b) 1 (λ same. omega (arith, same, past_header)) in
           let no_headers : headers ≡ [] = none_later 1 (suc k) (as_predecessor b) q bs on.1 (omega (arith, past_header)) in
@@ -63,7 +67,7 @@ in_order k p q (b ∷ bs) done =
                 let no_end : eqb (kind_in b) 3 ≡ false = ne_eqb (kind_in b) 3 (λ same. omega (arith, same, body)) in
                 ap (λ (xs : List (List ℕ)). b ∷ xs) (later ∙ ap (λ (xs : List (List ℕ)). xs ++ (bodies ++ ends)) no_headers)
                 ∙ sym
-                ((λ i. cond (no_header i) (b ∷ headers) headers ++ (cond (is i) (b ∷ bodies) bodies ++ cond (no_end i) (b ∷ ends) ends))
+                ((λ i. put (no_header i) b headers ++ (put (is i) b bodies ++ put (no_end i) b ends))
                 ∙ ap (λ (xs : List (List ℕ)). xs ++ ((b ∷ bodies) ++ ends)) no_headers)
             | inr past_body ↦
                 let is : eqb (kind_in b) 3 ≡ true = eq-eqb (kind_in b) 3 (omega (arith, past_body, most)) in
@@ -71,7 +75,7 @@ in_order k p q (b ∷ bs) done =
                 let no_bodies : bodies ≡ [] = none_later 2 (suc k) (as_predecessor b) q bs on.1 (omega (arith, past_body)) in
                 ap (λ (xs : List (List ℕ)). b ∷ xs) (later ∙ (λ i. no_headers i ++ (no_bodies i ++ ends)))
                 ∙ sym
-                ((λ i. cond (no_header i) (b ∷ headers) headers ++ (cond (no_body i) (b ∷ bodies) bodies ++ cond (is i) (b ∷ ends) ends))
+                ((λ i. put (no_header i) b headers ++ (put (no_body i) b bodies ++ put (is i) b ends))
                 ∙ (λ i. no_headers i ++ (no_bodies i ++ (b ∷ ends))))
           ]
     ]

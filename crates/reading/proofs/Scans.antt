@@ -78,7 +78,8 @@ data_length kind b whole within =
 
 data_short : (kind : ℕ) (xs : List ℕ) → length (data_of_kind kind (take 512 xs)) ≤ 512
 data_short kind xs =
-    grind (arith, nat_tests, length-take (used_length_in (take 512 xs)) (drop 6 (take 512 xs)), length-drop 6 (take 512 xs), length-take 512 xs)
+    let b : List ℕ = take 512 xs in
+    grind (arith, nat_tests, length-take (used_length_in b) (drop 6 b), length-drop 6 b, length-take 512 xs)
 
 pub data_within : (kind n : ℕ) (file : List ℕ) → length (data_of kind (first_chunks 512 n file)) ≤ 512 * n
 data_within kind zero file = omega arith

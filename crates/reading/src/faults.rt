@@ -14,20 +14,20 @@ use format::{BLOCK_BYTES, BlockKind, CHECK_AT, DATA_BYTES, LARGEST_FILE, block_c
 use refusal::Refusal;
 
 /// Whether a file has whole blocks, from 1 to 65,536.
-pub(crate) fn size_good(file: &[u8]) -> bool
+pub(crate) fn is_size_good(file: &[u8]) -> bool
     ensures { result ≡ is_size_good file.now }
 {
     file.len() % BLOCK_BYTES == 0 && BLOCK_BYTES <= file.len() && file.len() <= LARGEST_FILE
 }
 
-fn all_zero(bytes: &[u8]) -> bool
+fn is_all_zero(bytes: &[u8]) -> bool
     ensures { result ≡ is_all_zero bytes.now }
 {
     bytes.iter().all(|byte| *byte == 0)
 }
 
 // The end block has 16 bytes of data, every other 1 to 502.
-fn used_fits(kind: BlockKind, used: usize) -> bool
+fn is_used_fit(kind: BlockKind, used: usize) -> bool
     ensures { result ≡ is_used_fit (kind_number kind) used }
 {
     match kind {
@@ -43,7 +43,10 @@ fn shape_of(prefix: Prefix) -> Option<Shape>
 {
     let kind = BlockKind::try_from(prefix.kind).ok()?;
     let used = prefix.used;
-    if prefix.reserve != 0 || !used_fits(kind, used) || !all_zero(&prefix.rest[used..DATA_BYTES]) {
+    if prefix.reserve != 0
+        || !is_used_fit(kind, used)
+        || !is_all_zero(&prefix.rest[used..DATA_BYTES])
+    {
         return None;
     }
     Some(Shape { kind, used })

@@ -7,7 +7,7 @@ ghost use Rattle.format.specs.Layout.{block_length};
 ghost use Rattle.format.specs.Faults.{predecessor_at};
 ghost use Rattle.reading.specs.Shapes.{predecessor_of};
 
-use crate::faults::{check_block, size_good};
+use crate::faults::{check_block, is_size_good};
 use crate::record::{Item, parse};
 use crate::shape::Shape;
 use format::BLOCK_BYTES;
@@ -54,7 +54,7 @@ impl<'a> Reader<'a> {
     {
         let file = self.file;
         let place = self.place;
-        if !size_good(file) {
+        if !is_size_good(file) {
             return Err(Refusal::FileSize);
         }
         let left = &file[BLOCK_BYTES * place..];

@@ -6,7 +6,7 @@ ghost use Rattle.format.specs.Flaws.{IsScanFault};
 ghost use Rattle.format.specs.Verdict.{scan_answer};
 ghost use Rattle.reading.specs.Sections.{IsCutOf, lengths_answer};
 
-use crate::faults::size_good;
+use crate::faults::is_size_good;
 use crate::prefix::Prefix;
 use crate::scanning::scan_blocks;
 use crate::section::Section;
@@ -35,7 +35,7 @@ pub fn cut_file(file: &[u8]) -> Result<Sections<'_>, Refusal>
     ensures refused { IfErr result (IsScanFault file.now) }
     ensures sections { IfOk result (IsCutOf file.now) }
 {
-    if !size_good(file) {
+    if !is_size_good(file) {
         return Err(Refusal::FileSize);
     }
     let (blocks, _rest) = file.as_chunks::<BLOCK_BYTES>();

@@ -18,7 +18,10 @@ try_fold-requires-clause-callable c =
     let bs : List (List ℕ) = c.args.blocks.now in
     let chain : YieldsList _ (λ (p : ℕ × Bor (List ℕ)). (p.0, p.1.now)) c.enumerate.result (enumerate_from 0 bs) =
     YieldsList-from_enumerate (YieldsList-from_slice bs (cc)) (cc) in
-    serves_by _ (SoFar bs) (λ xs q x w j r. so_far_keeps bs c.told-blocks xs q x w j (let a : r.0 ≡ Ok w.1 = search rules in search (rules, a))) _ _ _ _ (λ more e. nothing_yet bs) (λ xs t q x u y s j.
+    serves_by _ (SoFar bs)
+    (λ xs q x w j r. so_far_keeps bs c.told-blocks xs q x w j (let a : r.0 ≡ Ok w.1 = search rules in search (rules, a)))
+    _ _ _ _ (λ more e. nothing_yet bs)
+    (λ xs t q x u y s j.
     let k : ℕ = length xs in
     let p = placed bs k x (YieldsList-turn chain xs t y _ u x refl s) in
     let m = upto bs xs q j (YieldsList-so_far chain xs t y) in
@@ -39,7 +42,9 @@ returns c =
     let chain : YieldsList _ (λ (p : ℕ × Bor (List ℕ)). (p.0, p.1.now)) c.enumerate.result (enumerate_from 0 bs) =
     YieldsList-from_enumerate (YieldsList-from_slice bs (cc)) (cc) in
     let so : SoFar bs xs (ran.2, a) =
-    chained_keeps _ (SoFar bs) (λ xs q x w j r. so_far_keeps bs c.told-blocks xs q x w j (let a : r.0 ≡ Ok w.1 = search rules in search (rules, a))) xs _ _ (λ more e. nothing_yet bs) ran.5 in
+    chained_keeps _ (SoFar bs)
+    (λ xs q x w j r. so_far_keeps bs c.told-blocks xs q x w j (let a : r.0 ≡ Ok w.1 = search rules in search (rules, a)))
+    xs _ _ (λ more e. nothing_yet bs) ran.5 in
     let m = upto bs xs (ran.2, a) so (YieldsList-so_far chain xs turns.0 turns.1) in
     by_option ran.1 ran.6
     (λ none done.

@@ -38,7 +38,7 @@ returns-in_err-scan-clause-answer c =
     let all = chunks_are file c.as_chunks.result.0.now c.as_chunks.ensures.front in
     ap lengths_answer (came.1 ∙ ap (λ (e : Refusal). Err e) came.2)
     ∙ sym
-    (answer_fault file (sym c.if-not-size_good.ensures) c.in_err-scan.field-0.0
+    (answer_fault file (sym c.if-not-is_size_good.ensures) c.in_err-scan.field-0.0
     (ap (scan_result 0 no_predecessor) (sym all) ∙ c.in_err-scan.ensures))
 
 pub returns-in_err-scan-clause-refused : goal.returns-in_err-scan-clause-refused
@@ -51,7 +51,7 @@ returns-then-not-has_end-clause-answer c =
     let none = sym c.has_end.ensures ∙ c.if-not-has_end.true in
     ap (λ (n : ℕ). Err (NoEnd n)) c.as_chunks.ensures.front_len
     ∙ sym
-    (answer_no_end file (sym c.if-not-size_good.ensures) (predecessor_of c.in_ok-scan.scan.last)
+    (answer_no_end file (sym c.if-not-is_size_good.ensures) (predecessor_of c.in_ok-scan.scan.last)
     (ap (scan_result 0 no_predecessor) (sym all) ∙ c.in_ok-scan.ensures.sound) none)
 
 pub returns-then-not-has_end-clause-refused : goal.returns-then-not-has_end-clause-refused
@@ -103,7 +103,7 @@ returns c =
             header = size 1 scan.header.bytes said.header.bytes i;
             body = size 2 scan.body.bytes said.body.bytes i;
           })
-          ∙ sym (answer_end file (sym c.if-not-size_good.ensures) last (ap (scan_result 0 no_predecessor) (sym all)
+          ∙ sym (answer_end file (sym c.if-not-is_size_good.ensures) last (ap (scan_result 0 no_predecessor) (sym all)
           ∙ said.sound) test);
       refused = tt;
       sections = record {

@@ -60,7 +60,7 @@ returns-in_err-shape-clause-read c =
     let cut = c.in-Some.ensures.cases in
     rw (came.1, came.2)
     record {
-      why = wrong self c.in-Some.block.now cut.same cut.enough (sym c.if-not-size_good.ensures) ∙ c.in_err-shape.ensures;
+      why = wrong self c.in-Some.block.now cut.same cut.enough (sym c.if-not-is_size_good.ensures) ∙ c.in_err-shape.ensures;
       stays = refl;
     }
 
@@ -85,7 +85,7 @@ returns-clause-read c =
     let cut = c.in-Some.ensures.cases in
     let item : Item = record { «record» = c.parse.result.0; rest = c.parse.result.1 } in
     record {
-      sound = wrong self block cut.same cut.enough (sym c.if-not-size_good.ensures) ∙ c.in_ok-shape.ensures.sound;
+      sound = wrong self block cut.same cut.enough (sym c.if-not-is_size_good.ensures) ∙ c.in_ok-shape.ensures.sound;
       within = whole self block cut.same cut.enough;
       item = taken self.file.now self.place item c.parse.ensures;
       moves = add-one self.place;
