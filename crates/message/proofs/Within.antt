@@ -1,5 +1,5 @@
 -- Answers for parts within their limits.
-use Rattle.std.proofs.Common.{◌≡◌, ℕ, Bool, true, false, cond, ltb, List, length, Ok, Err, Result, ◌≤◌, sym, refl, ap, ◌∙◌, subst}
+use Rattle.std.proofs.Common.{◌≡◌, ℕ, Bool, true, false, cond, ltb, List, length, Ok, Err, Result, ◌≤◌, refl, ap, ◌∙◌, subst}
 use Rattle.refusal.specs.declared.Refusal.{Refusal}
 use Rattle.refusal.specs.declared.Refusal.TheVariants.{HeaderTooLong, BodyTooLong}
 use Rattle.std.proofs.lemmas.Bool.{cond-false, le-ltb}
@@ -47,8 +47,3 @@ checked_answer answer header body m same_header same_body =
     let short : length header ≤ header_limit = subst (λ (xs : List ℕ). length xs ≤ header_limit) same_header m.short in
     let few : length body ≤ body_limit = subst (λ (xs : List ℕ). length xs ≤ body_limit) same_body m.few in
     cond-false _ _ _ (le-ltb header_limit (length header) short) ∙ cond-false _ _ _ (le-ltb body_limit (length body) few)
-
--- a refusal for a length is the refusal whatever would be answered else
-pub refused_answer : {X : Type 0} (answer : Result X Refusal) (header body : List ℕ) (why : Refusal)
-    → within_limits header body (Ok (tt {0})) ≡ Err why → within_limits header body answer ≡ Err why
-refused_answer answer header body why said = sym (after_lengths answer header body tt (Err why) (sym said))

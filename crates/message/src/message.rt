@@ -60,7 +60,8 @@ impl<'a> Message<'a> {
     ///
     /// It is the recursion of NIST SP 800-38D, section 6.4, with nothing between: engines are compared with it.
     pub fn hash_and_tag(self, subkey: Block, pad: Pad) -> Result<Digest, Refusal>
-        ensures value { result ≡ digest_answer subkey pad self.entry.header.now self.entry.body.now }
+        ensures value { result
+            ≡ digest_answer subkey pad self.entry.header.now self.entry.body.now }
         ensures standard { IfOk result
             (MeetsStandard subkey pad self.entry.header.now self.entry.body.now) }
     {
