@@ -1,19 +1,14 @@
 -- Values of the polynomials of a division: a remainder has the dividend's value at a point where the divisor is zero.
-use Rattle.std.proofs.Common.{◌≡◌, ℕ, zero, suc, ◌+◌, Bool, List, [], ◌∷◌, ◌++◌, length, replicate, reverse, fold, sym, refl, ap, ◌∙◌, ap₂, zero-add}
-use Rattle.std.proofs.lemmas.List.FromFn.{length-map-range_with_len}
+use Rattle.std.proofs.Common.{◌≡◌, ℕ, zero, suc, Bool, List, [], ◌∷◌, ◌++◌, replicate, reverse, fold, sym, refl, ap, ◌∙◌, ap₂}
 use Rattle.std.proofs.lemmas.List.{reverse-append}
 use Rattle.std.proofs.lemmas.List.Sums.{fold-append}
 use Rattle.field.specs.Ring.{CommutativeRing}
 use Rattle.field.specs.Evaluation.{power}
 use Rattle.field.specs.declared.element.Element.{Ghosts}
 use Rattle.field.proofs.Horner.{zero_sum, sum_product, product_zero, zero_product}
-use Rattle.polynomial.specs.Polynomials.{value_from, value_at, element, coefficient_list, Annihilates}
-use Rattle.polynomial.proofs.Values.{value_push, one_product}
+use Rattle.polynomial.specs.Polynomials.{value_from, value_at, coefficient_list, Annihilates}
+use Rattle.polynomial.proofs.Values.{value_at-proposal}
 use Rattle.division.specs.Remainders.{sum_of, scalar_multiple, times_t, product_of, IsRemainder}
-
-pub length-coefficient_list : {K : Type 0} (m : Ghosts K) (n : ℕ) (bits : ℕ → Bool) → length (coefficient_list m n bits) ≡ n
-unfolding coefficient_list
-length-coefficient_list m n bits = length-map-range_with_len (λ k. element m (bits k)) 0 n
 
 module _ {K : Type 0} (m : Ghosts K) (laws : CommutativeRing m.zero m.one m.sum m.product) (r : K) where
   -- the two in the middle change places
@@ -109,10 +104,4 @@ module _ {K : Type 0} (m : Ghosts K) (laws : CommutativeRing m.zero m.one m.sum 
 
   -- a divisor is zero at r where its polynomial, whose highest term is not among its bits, annihilates r
   pub value_at-divisor : (n : ℕ) (bits : ℕ → Bool) → Annihilates m n bits r → value_at m r (coefficient_list m n bits ++ (m.one ∷ [])) ≡ m.zero
-  value_at-divisor n bits zero-there =
-      let cs : List K = coefficient_list m n bits in
-      let long : 0 + length cs ≡ n = zero-add (length cs) ∙ length-coefficient_list m n bits in
-      value_push m laws r 0 cs m.one
-      ∙ ap (m.sum (value_at m r cs)) (one_product m laws (power m r (0 + length cs)) ∙ ap (power m r) long)
-      ∙ laws.sum_comm (value_at m r cs) (power m r n)
-      ∙ zero-there
+  value_at-divisor n bits zero-there = value_at-proposal m laws r n bits ∙ zero-there

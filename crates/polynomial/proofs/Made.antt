@@ -1,19 +1,17 @@
 -- What the maker answers annihilates the subkey; what it refuses is seen below the highest coefficient.
-use Rattle.std.proofs.Common.{◌≡◌, ℕ, zero, suc, ◌+◌, ◌<◌, ◌≤◌, Bool, List, [], ◌∷◌, ◌++◌, length, sym, refl, ap, ◌∙◌, subst, inr, Option, Some, None, IfOk, zero-add, arith, length-append}
+use Rattle.std.proofs.Common.{◌≡◌, ℕ, zero, suc, ◌<◌, ◌≤◌, Bool, List, [], ◌∷◌, ◌++◌, length, sym, refl, ap, ◌∙◌, subst, inr, Option, Some, None, IfOk, arith, length-append}
 use Rattle.std.specs.Option.{ok_or}
-use Rattle.std.proofs.lemmas.List.FromFn.{length-map-range_with_len}
 use Rattle.std.proofs.lemmas.List.{get_or_append_left}
 use Rattle.field.specs.Ring.{CommutativeRing}
-use Rattle.field.specs.Evaluation.{power}
 use Rattle.field.specs.declared.element.Element.{Ghosts}
 use Rattle.polynomial.specs.Bits.{BinaryLaws}
-use Rattle.polynomial.specs.Polynomials.{value_at, element, coefficient_list, Annihilates, conjugates, SomeNeither}
+use Rattle.polynomial.specs.Polynomials.{value_at, coefficient_list, Annihilates, conjugates, SomeNeither}
 use Rattle.refusal.specs.declared.Refusal.TheVariants.{NotBinary}
 use Rattle.polynomial.specs.Outcomes.{Makes}
 use Rattle.polynomial.specs.Steps.{lower_conjugates, Reads}
 use Rattle.polynomial.specs.declared.binary.Binary as binary
 use Rattle.polynomial.proofs.Conjugates.{conjugates_lower}
-use Rattle.polynomial.proofs.Values.{value_push, one_product, conjugates_value, factors_vanish}
+use Rattle.polynomial.proofs.Values.{conjugates_value, factors_vanish, value_at-proposal}
 
 neither_above : {K : Type 0} (m : Ghosts K) (xs ys : List K) → SomeNeither m xs → SomeNeither m (xs ++ ys)
 neither_above m xs ys (k, within, not-zero, not-one) =
@@ -45,16 +43,8 @@ module _ {K : Type 0} (m : Ghosts K) (laws : CommutativeRing m.zero m.one m.sum 
 
     made_annihilates : (bits : ℕ → Bool) → coefficient_list m b.width bits ++ m.one ∷ [] ≡ conjugates m r b.width
         → Annihilates m b.width bits r
-    unfolding coefficient_list
     made_annihilates bits made =
-        let cs : List K = coefficient_list m b.width bits in
-        let long : 0 + length cs ≡ b.width = zero-add (length cs) ∙ length-map-range_with_len (λ k. element m (bits k)) 0 b.width in
-        laws.sum_comm (power m r b.width) (value_at m r cs)
-        ∙ ap (m.sum (value_at m r cs))
-        (sym (one_product m laws (power m r b.width)) ∙ ap (λ n. m.product m.one (power m r n)) (sym long))
-        ∙ sym (value_push m laws r 0 cs m.one)
-        ∙ ap (value_at m r) made
-        ∙ vanishes b.width binary-laws.wide
+        sym (value_at-proposal m laws r b.width bits) ∙ ap (value_at m r) made ∙ vanishes b.width binary-laws.wide
 
     pub found_annihilates : (found : Option K) → Reads m b.bits b.width (lower_conjugates m r b.width) found
         → IfOk (ok_or found NotBinary) (λ p. Annihilates m b.width (b.bits p) r)

@@ -1,11 +1,12 @@
 -- Values of polynomials at a point, from the laws of a commutative ring.
 use Rattle.std.proofs.Common.{◌≡◌, ℕ, zero, suc, ◌+◌, ◌^◌, Bool, true, false, if◌then◌else◌, List, [], ◌∷◌, ◌++◌, map, filter, fold, length, sym, ap, ◌∙◌, ap₂, add-zero, add-suc, suc-add, zero-add}
 use Rattle.std.specs.List.{range_with_len, enumerate_from}
+use Rattle.std.proofs.lemmas.List.FromFn.{length-map-range_with_len}
 use Rattle.field.specs.Ring.{CommutativeRing}
 use Rattle.field.specs.Evaluation.{power}
 use Rattle.field.specs.declared.element.Element.{Ghosts}
 use Rattle.field.proofs.Horner.{zero_sum, sum_product, product_zero, zero_product}
-use Rattle.polynomial.specs.Polynomials.{value_from, value_at, element, coefficient_list, linear_from, times_linear, conjugates, factors_at, lower_value}
+use Rattle.polynomial.specs.Polynomials.{value_from, value_at, element, coefficient_list, linear_from, times_linear, conjugates, factors_at, lower_value, proposal_value}
 use Rattle.polynomial.specs.Steps.{power_list}
 
 module _ {K : Type 0} (m : Ghosts K) (laws : CommutativeRing m.zero m.one m.sum m.product) where
@@ -34,6 +35,20 @@ module _ {K : Type 0} (m : Ghosts K) (laws : CommutativeRing m.zero m.one m.sum 
       ∙ ap (λ n. m.sum (value_from m r (suc j) cs) (m.product c (power m r n)))
       (suc-add j (length cs) ∙ sym (add-suc j (length cs))))
       ∙ sym (laws.sum_assoc (m.product d (power m r j)) (value_from m r (suc j) cs) (m.product c (power m r (j + suc (length cs)))))
+
+  pub length-coefficient_list : (n : ℕ) (bits : ℕ → Bool) → length (coefficient_list m n bits) ≡ n
+  unfolding coefficient_list
+  length-coefficient_list n bits = length-map-range_with_len (λ k. element m (bits k)) 0 n
+
+  -- the stored coefficients and a one after them are those of the whole polynomial
+  pub value_at-proposal : (r : K) (n : ℕ) (bits : ℕ → Bool)
+      → value_at m r (coefficient_list m n bits ++ (m.one ∷ [])) ≡ proposal_value m n bits r
+  value_at-proposal r n bits =
+      let cs : List K = coefficient_list m n bits in
+      let long : 0 + length cs ≡ n = zero-add (length cs) ∙ length-coefficient_list n bits in
+      value_push r 0 cs m.one
+      ∙ ap (m.sum (value_at m r cs)) (one_product (power m r (0 + length cs)) ∙ ap (power m r) long)
+      ∙ laws.sum_comm (value_at m r cs) (power m r n)
 
   -- t + z times a polynomial has r + z times its value
   linear_value : (r z : K) (j : ℕ) (b : K) (cs : List K)

@@ -8,7 +8,8 @@ use Rattle.division.specs.Divisions.{divisor_of, polynomial_of, dividend, Leaves
 use Rattle.division.specs.Remainders.{sum_of, times_t}
 use Rattle.division.specs.declared.ring.Ring.{Ring}
 use Rattle.division.proofs.OneRemainder.{only_remainder}
-use Rattle.division.proofs.RemainderValues.{value_at-remainder, value_at-times_t, value_at-add_constant, value_at-divisor, length-coefficient_list}
+use Rattle.division.proofs.RemainderValues.{value_at-remainder, value_at-times_t, value_at-add_constant, value_at-divisor}
+use Rattle.polynomial.proofs.Values.{length-coefficient_list}
 use Rattle.division.proofs.division.DivisionEngine.absorb.Goals as goal
 
 -- the remainder has the value that the step of the hash wants, since the divisor is zero at the subkey
@@ -35,6 +36,6 @@ returns-clause-whole c =
       only =
           only_remainder block_ring block_ring_laws (dividend c.args.self.now.ring c.args.block)
           (coefficient_list block_ring 128 (coefficients_of a.coefficients)) (polynomial_of c.absorb.new.self) 128
-          (length-coefficient_list block_ring 128 (coefficients_of a.coefficients)) c.absorb.ensures.divided;
+          (length-coefficient_list block_ring block_ring_laws 128 (coefficients_of a.coefficients)) c.absorb.ensures.divided;
       turn = c.absorb.ensures.turn;
     }
