@@ -1,21 +1,15 @@
 -- The pieces of a header and a body that are found one by one.
-use Rattle.std.proofs.Common.{◌≡◌, ℕ, zero, suc, ◌+◌, ◌-◌, ◌*◌, ◌<◌, ◌≤◌, List, ◌∷◌, ◌++◌, map, length, take, drop, Some, sym, refl, ap, ◌∙◌, ap₂, arith, length-drop, take-append-drop, lt-ltb}
+use Rattle.std.proofs.Common.{◌≡◌, ℕ, zero, suc, ◌+◌, ◌-◌, ◌*◌, ◌<◌, ◌≤◌, List, ◌∷◌, ◌++◌, map, length, take, drop, Some, sym, refl, ap, ◌∙◌, ap₂, arith, lt-ltb}
 use mathlib.Core.List.{map-append}
 use Rattle.std.proofs.lemmas.List.Folds.{concat-append}
 use Rattle.std.specs.Simd.{first_chunks}
 use Rattle.std.specs.List.{concat, range_with_len}
-use Rattle.std.proofs.lemmas.List.{drop-drop, nil_from_length}
+use Rattle.std.proofs.lemmas.List.{drop-drop}
 use Rattle.std.proofs.lemmas.Bool.{cond-true, cond-false, le-ltb}
 use Rattle.message.specs.Blocks.{block_from, blocks_taken, blocks}
 use Rattle.message.specs.Finding.{block_place, bytes_at, block_pieces, CoversMessage}
 use Rattle.message.specs.declared.part.Part.TheVariants.{Header, Body}
-
--- pieces that are long enough for a part are all of it
-concat_chunks : (n : ℕ) (bytes : List ℕ) → length bytes ≤ 16 * n → concat (first_chunks 16 n bytes) ≡ bytes
-concat_chunks zero bytes none = sym (nil_from_length bytes (omega arith))
-concat_chunks (suc n) bytes within =
-    let rest : length (drop 16 bytes) ≤ 16 * n = simp length-drop (omega arith) in
-    ap (λ xs. take 16 bytes ++ xs) (concat_chunks n (drop 16 bytes) rest) ∙ take-append-drop 16 bytes
+use Rattle.message.proofs.Cutting.{concat-first_chunks}
 
 counting_append : (a m n : ℕ) → range_with_len a (m + n) ≡ range_with_len a m ++ range_with_len (a + m) n
 counting_append a zero n =
@@ -82,5 +76,5 @@ module _ (header body : List ℕ) where
         ap (map block_from) all_pieces ∙ map-append block_from (first_chunks 16 in_header header) (first_chunks 16 in_body body);
     bytes =
         ap concat all_pieces ∙ concat-append (first_chunks 16 in_header header) (first_chunks 16 in_body body)
-        ∙ ap₂ (λ xs ys. xs ++ ys) (concat_chunks in_header header (omega arith)) (concat_chunks in_body body (omega arith));
+        ∙ ap₂ (λ xs ys. xs ++ ys) (concat-first_chunks 16 in_header header (omega arith)) (concat-first_chunks 16 in_body body (omega arith));
   }
