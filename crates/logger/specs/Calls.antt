@@ -57,13 +57,17 @@ output_after subkey pad header body output =
 pub record AnswersTag (subkey_high subkey_low pad_high pad_low : ℕ) (header body before : List ℕ)
     (status : ℤ) (after : List ℕ) : Type 0 where
   pub value : status ≡ status_of (tag_call_answer header body before)
-  pub output : after ≡ output_after (halves subkey_high subkey_low) (pad_halves pad_high pad_low) header body before
+  pub output : after
+      ≡ output_after (halves subkey_high subkey_low) (pad_halves pad_high pad_low)
+      header body before
 
 -- what a call that checks a tag answers
-abbrev pub AnswersCheck : (subkey_high subkey_low pad_high pad_low : ℕ) (header body given : List ℕ) (status : ℤ)
-    → Type 0
+abbrev pub AnswersCheck : (subkey_high subkey_low pad_high pad_low : ℕ)
+    (header body given : List ℕ) (status : ℤ) → Type 0
 AnswersCheck subkey_high subkey_low pad_high pad_low header body given status =
-    status ≡ status_of (check_answer (halves subkey_high subkey_low) (pad_halves pad_high pad_low) header body given)
+    status
+    ≡ status_of (check_answer (halves subkey_high subkey_low) (pad_halves pad_high pad_low)
+    header body given)
 
 module _ (subkey proposal : Block) where
   -- the polynomial that the proposal stands for is zero at the subkey
@@ -76,7 +80,8 @@ module _ (subkey proposal : Block) where
   Weighs (Err refusal) = ¬ IsAnnihilated × (refusal ≡ DoesNotAnnihilate)
 
 -- What a call that tries a polynomial answers: the number of ones, or the number of the refusal.
-pub record TriesPolynomial (subkey_high subkey_low proposal_high proposal_low : ℕ) (status : ℤ) : Type 0 where
+pub record TriesPolynomial (subkey_high subkey_low proposal_high proposal_low : ℕ)
+    (status : ℤ) : Type 0 where
   pub answer : Result ℕ Refusal
   pub weighs : Weighs (halves subkey_high subkey_low) (halves proposal_high proposal_low) answer
   pub value : status ≡ number_status answer

@@ -29,7 +29,9 @@ module _ (header body : List ℕ) where
   -- what is found stands at the place of block n and is the bytes there; nothing is found where there is no block n
   abbrev pub Finds : ℕ → Option Found → Type 0
   Finds n None = block_place n ≡ None
-  Finds n (Some found) = (block_place n ≡ Some (found.part, found.offset)) × (found.bytes.now ≡ bytes_at (block_place n))
+  Finds n (Some found) =
+      (block_place n ≡ Some (found.part, found.offset))
+      × (found.bytes.now ≡ bytes_at (block_place n))
 
   -- the bytes of every block, in order
   abbrev pub block_pieces : List (List ℕ)

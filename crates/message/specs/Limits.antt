@@ -25,7 +25,8 @@ part_name Body = codes "body"
 
 -- an answer for one part within its limit
 abbrev pub within_limit : {X : Type 0} → Part → List ℕ → Result X Refusal → Result X Refusal
-within_limit part bytes answer = if nat_lt (limit_of part) (length bytes) then Err (part_refusal part) else answer
+within_limit part bytes answer =
+    if nat_lt (limit_of part) (length bytes) then Err (part_refusal part) else answer
 
 -- an answer for parts within their limits; the header's limit is looked at first
 abbrev pub within_limits : {X : Type 0} → List ℕ → List ℕ → Result X Refusal → Result X Refusal

@@ -78,9 +78,11 @@ abbrev pub block_string : Block → List ℕ
 block_string b = bits 128 b.bits
 
 -- Hash and tag are those of the standard, for this subkey, pad, header and body.
-pub record MeetsStandard (subkey : Block) (pad : Pad) (header body : List ℕ) (digest : Digest) : Type 0 where
+pub record MeetsStandard (subkey : Block) (pad : Pad) (header body : List ℕ)
+    (digest : Digest) : Type 0 where
   -- S = GHASH_H(A ‖ 0^v ‖ C ‖ 0^u ‖ [len(A)]64 ‖ [len(C)]64)
-  pub hashed : block_string digest.hash ≡ ghash (block_string subkey) (message (string header) (string body))
+  pub hashed : block_string digest.hash
+      ≡ ghash (block_string subkey) (message (string header) (string body))
   -- T = S ⊕ E(J0), all 128 bits of it
   pub tagged : block_string digest.tag.0
       ≡ xor (ghash (block_string subkey) (message (string header) (string body))) (block_string pad.0)

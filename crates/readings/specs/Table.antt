@@ -27,7 +27,8 @@ last byte = block_of (zeros 15 ++ (byte ∷ []))
 -- What the definitions say of a few elements and short messages, each value worked out.
 pub record Table : Type 0 where
   pub nibble_product_row : nibble_ring.product (nibble 0b0110) (nibble 0b0011) ≡ nibble 0b1010
-  pub nibble_value_row : eval nibble_ring (nibble 0b0010) (nibble 0b0001 ∷ (nibble 0b0001 ∷ [])) ≡ nibble 0b0110
+  pub nibble_value_row :
+      eval nibble_ring (nibble 0b0010) (nibble 0b0001 ∷ (nibble 0b0001 ∷ [])) ≡ nibble 0b0110
   -- x^4 = x + 1
   pub nibble_modulus_row : power nibble_ring (nibble 0b0010) 4 ≡ nibble 0b0011
   pub word_one_row : eval word_ring (word 16807) (word 1 ∷ []) ≡ word 16807
@@ -43,7 +44,8 @@ pub record Table : Type 0 where
   pub empty_hash_row : (subkey : Block) → hash_of subkey [] [] ≡ block_of (zeros 16)
   pub empty_tag_row : (subkey : Block) (pad : Pad) → (tag_of subkey pad [] []).0 ≡ pad.0
   pub body_only_row : hash_of (first 0x80) [] (0x80 ∷ []) ≡ block_of (0x80 ∷ zeros 14 ++ (0x08 ∷ []))
-  pub header_only_row : hash_of (first 0x80) (0x80 ∷ []) [] ≡ block_of (0x80 ∷ zeros 6 ++ (0x08 ∷ zeros 8))
+  pub header_only_row :
+      hash_of (first 0x80) (0x80 ∷ []) [] ≡ block_of (0x80 ∷ zeros 6 ++ (0x08 ∷ zeros 8))
 
 -- the same readings, as the calls answer them
 abbrev pub table_readings : Pad → Readings

@@ -10,15 +10,16 @@ use Rattle.job.specs.declared.body_job.BodyJob.{BodyJob}
 use Rattle.job.specs.declared.header_job.HeaderJob.{HeaderJob}
 
 module _ {E : Type 0} (m : Ghosts E) where
-  -- A state that has taken these bytes of its part, whose engine hashed the blocks that they fill and nothing else, since the engine
-  -- with which the part began.
+  -- A state that has taken these bytes of its part, whose engine hashed the blocks that they fill and nothing else, since the
+  -- engine with which the part began.
   pub record Took {S : Type 0} (Holds : S → List ℕ → Type 0) (buffer_of : S → BlockBuffer E)
       (began : E) (state : S) (taken : List ℕ) : Type 0 where
     pub holds : Holds state taken
     pub hashed : HashesBlocks m began (full_blocks taken) (buffer_of state).engine
 
   -- From one state to another these bytes were fed, and nothing was taken before.
-  abbrev pub IsFed : {S : Type 0} → (S → List ℕ → Type 0) → (S → BlockBuffer E) → S → List ℕ → S → Type 0
+  abbrev pub IsFed : {S : Type 0}
+      → (S → List ℕ → Type 0) → (S → BlockBuffer E) → S → List ℕ → S → Type 0
   IsFed Holds buffer_of old bytes new =
       (began : E) → Took Holds buffer_of began old [] → Took Holds buffer_of began new bytes
 

@@ -37,8 +37,12 @@ abbrev pub answer_for : Block → Pad → Message → ℕ → Result Sealed Refu
 answer_for subkey pad m room = seal_answer subkey pad m.header.now m.body.now room
 
 -- The engine hashed the message where there is a file, and was not touched where there is a refusal.
-abbrev pub HashesIfSealed : {E : Type 0} → Ghosts E → E → Message → E → Result Sealed Refusal → Type 0
-HashesIfSealed g e m f answer = MatchResult answer (λ _. HashesMessage g e m.header.now m.body.now f) (λ _. f ≡ e)
+abbrev pub HashesIfSealed : {E : Type 0}
+    → Ghosts E → E → Message → E → Result Sealed Refusal → Type 0
+HashesIfSealed g e m f answer =
+    MatchResult answer
+    (λ _. HashesMessage g e m.header.now m.body.now f)
+    (λ _. f ≡ e)
 
 -- The file of a message has no more blocks than there are numbers for, and fits this many bytes.
 pub record HasRoom (m : Message) (room : ℕ) : Type 0 where
@@ -55,4 +59,7 @@ StandsInFront file before after = after ≡ file ++ drop (length file) before
 
 -- An output before and after: the file stands at its front; after a refusal all is as it was.
 abbrev pub WritesFile : List ℕ → List ℕ → List ℕ → Result Sealed Refusal → Type 0
-WritesFile file before after answer = MatchResult answer (λ _. StandsInFront file before after) (λ _. after ≡ before)
+WritesFile file before after answer =
+    MatchResult answer
+    (λ _. StandsInFront file before after)
+    (λ _. after ≡ before)

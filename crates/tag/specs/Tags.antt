@@ -38,7 +38,8 @@ begins_tag tag given = starts_with nat_eq (bytes_of tag.0) given
 abbrev pub check_answer : Block → Pad → List ℕ → List ℕ → List ℕ → Result (Unit {0}) Refusal
 check_answer subkey pad header body given =
     if has_tag_length given
-    then within_limits header body (if begins_tag (tag_of subkey pad header body) given then Ok tt else Err TagDiffers)
+    then within_limits header body
+    (if begins_tag (tag_of subkey pad header body) given then Ok tt else Err TagDiffers)
     else Err TagLength
 
 module _ {E : Type 0} (m : Ghosts E) where
@@ -56,7 +57,8 @@ module _ {E : Type 0} (m : Ghosts E) where
     pub engine : HashesMessage e header body f
 
   -- The same for parts within their limits; a longer part is refused, the header first, and the engine is as it was.
-  pub record TagsWithinLimits (e : E) (pad : Pad) (header body : List ℕ) (f : E) (result : Result Digest Refusal) : Type 0 where
+  pub record TagsWithinLimits (e : E) (pad : Pad) (header body : List ℕ)
+      (f : E) (result : Result Digest Refusal) : Type 0 where
     pub answer : result ≡ digest_answer (m.subkey_of e) pad header body
     pub standard : IfOk result (MeetsStandard (m.subkey_of e) pad header body)
     pub engine : MatchResult result (λ _. HashesMessage e header body f) (λ _. f ≡ e)
@@ -65,9 +67,12 @@ module _ {E : Type 0} (m : Ghosts E) where
   abbrev pub HashesToCompare : E → List ℕ → List ℕ → E → Result (Unit {0}) Refusal → Type 0
   HashesToCompare e header body f (Ok x) = HashesMessage e header body f
   HashesToCompare e header body f (Err refusal) =
-      MatchBool (refusal_number refusal == refusal_number TagDiffers) (HashesMessage e header body f) (f ≡ e)
+      MatchBool (refusal_number refusal == refusal_number TagDiffers)
+      (HashesMessage e header body f)
+      (f ≡ e)
 
   -- A given tag, held beside the beginning of the message's own.
-  pub record ChecksTag (e : E) (pad : Pad) (header body given : List ℕ) (f : E) (result : Result (Unit {0}) Refusal) : Type 0 where
+  pub record ChecksTag (e : E) (pad : Pad) (header body given : List ℕ)
+      (f : E) (result : Result (Unit {0}) Refusal) : Type 0 where
     pub answer : result ≡ check_answer (m.subkey_of e) pad header body given
     pub engine : HashesToCompare e header body f result
