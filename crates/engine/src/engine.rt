@@ -62,7 +62,8 @@ pub trait Engine: Sized {
         ensures ready { ready_of self.new ≡ ready_of self.old }
         ensures whole { resumes self.old value self.new };
 
-    /// Hands T over within the engine, to what has not run so far. T stays what it is, and so does all that is computed from it.
+    /// Hands T over within the engine, to its other way of computing: in a pair, to the engine that does not run. T stays what it is,
+    /// and so does all that is computed from it.
     ///
     /// Refused as `NotReady` (6) exactly where the engine is not ready. What a refused switch leaves, `switches` says; each engine of
     /// this library is then as it was, all of it.

@@ -1,7 +1,7 @@
 // The bytes of a part, cut into blocks on their way to an engine.
 //
-// Fewer than 16 bytes wait for their block. The byte that fills it sends it to the engine, and 16 bytes that find none waiting go
-// there straight. So the engine has always hashed the full blocks of all bytes that were taken, and what waits is the rest,
+// Fewer than 16 bytes wait for their block. The first bytes of a piece, up to the end of that block, join them one by one, and the byte
+// that fills the block sends it to the engine; each later 16 go there straight. So the engine has always hashed the full blocks of all bytes that were taken, and what waits is the rest,
 // wherever the bytes were parted into pieces. At the end of the part, what waits is filled with zeros and hashed.
 //
 // The count is of all bytes taken, those that wait too. It alone is held against the limit, before anything of a piece is taken, so
@@ -84,7 +84,7 @@ impl<E: Engine> BlockBuffer<E> {
         }
     }
 
-    // Takes a piece of the part whole, or refuses it: first what fills the block that waits, then 16 bytes at a time.
+    // Takes a piece of the part whole, or refuses it: first what the block that waits has room for, then 16 bytes at a time.
     pub(crate) fn feed(&mut self, piece: &[u8]) -> Answer
         ensures part { self.new.part ≡ self.old.part }
         ensures whole { Feeds E.Engine self.old piece.now result self.new }

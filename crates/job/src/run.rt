@@ -1,7 +1,7 @@
 // A run: a whole job from lists of calls.
 //
 // The engine starts at zero. Every call of the header is made, in order; then come the turn, every call of the body, and the
-// close. A refused call changes nothing and the run goes on, so each run ends in a close, and what the job has taken is the
+// close. A refused call changes nothing of what the job has taken, and the run goes on, so each run ends in a close, and what the job has taken is the
 // accepted pieces, joined. The answers depend on the calls and on whether the engine is ready, and on nothing else of the engine.
 ghost use Rattle.std.specs.Prelude.{◌≡◌};
 ghost use Rattle.job.specs.Plain.{part_answers};

@@ -59,8 +59,8 @@ pub fn sonde_check_tag(
 /// Tries the polynomial t^128 + c_127 t^127 + .. + c_0 against the subkey. The proposal's two numbers hold the coefficients from
 /// the highest bit down: c_0 is the highest bit of the first number, and c_127 the lowest of the second.
 ///
-/// Returns 0 to 128, how many of the c_j are one, where the polynomial annihilates the subkey; and -3 where it does not. The powers
-/// of the subkey that are worked out on the way are wiped from the stack.
+/// Returns 0 to 128, how many of the c_j are one, where the polynomial annihilates the subkey; and -3 where it does not. The
+/// scratch, in which powers of the subkey stand on the way, is zero again before it returns.
 pub fn sonde_try_polynomial(
     subkey_high: u64,
     subkey_low: u64,

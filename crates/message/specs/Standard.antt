@@ -83,6 +83,6 @@ pub record MeetsStandard (subkey : Block) (pad : Pad) (header body : List ℕ)
   -- S = GHASH_H(A ‖ 0^v ‖ C ‖ 0^u ‖ [len(A)]64 ‖ [len(C)]64)
   pub hashed : block_string digest.hash
       ≡ ghash (block_string subkey) (message (string header) (string body))
-  -- T = S ⊕ E(J0), all 128 bits of it
+  -- T = S ⊕ CIPH_K(J0), all 128 bits of it; the pad is CIPH_K(J0)
   pub tagged : block_string digest.tag.0
       ≡ xor (ghash (block_string subkey) (message (string header) (string body))) (block_string pad.0)

@@ -1,14 +1,15 @@
 // Hash and tag of a message, and the pad that makes the one into the other.
 //
 // Subkey, pad, hash and tag are 16 bytes each, and none may be taken for another: a pad at the place of the subkey, or a hash sent where
-// the tag belongs, gives the subkey away. So pad and tag have types of their own. The subkey stays a block, since whatever is made from
-// it looks at it.
+// the tag belongs, may give the subkey away. So pad and tag have types of their own. The subkey stays a block, since whatever is made
+// from it looks at it.
 ghost use Rattle.std.specs.Prelude.{◌≡◌};
 ghost use Rattle.field.specs.Bytes.{bytes_of};
 
 use field::{Block, Element};
 
-/// The enciphered first counter block, E(J0) in NIST SP 800-38D: added to a hash it makes the tag. It serves one message alone.
+/// The enciphered pre-counter block, CIPH_K(J0) in NIST SP 800-38D, section 7.1: added to a hash it makes the tag. It serves one
+/// message alone.
 #[derive(Clone, Copy, PartialEq, Eq, Debug)]
 pub struct Pad(pub Block);
 
@@ -30,6 +31,7 @@ impl Tag {
 pub struct Digest {
     /// The GHASH of the block list. Together with the message it is an equation in the subkey: it is kept secret.
     pub hash: Block,
+    /// The hash with the pad added, which goes with the message.
     pub tag: Tag,
 }
 

@@ -16,7 +16,9 @@ use refusal::Refusal;
 /// A header and a body, hashed together. Nothing is said yet of their lengths.
 #[derive(Clone, Copy)]
 pub struct Message<'a> {
+    /// What is hashed first: the standard's additional authenticated data.
     pub header: &'a [u8],
+    /// What is hashed after it: the standard's ciphertext.
     pub body: &'a [u8],
 }
 

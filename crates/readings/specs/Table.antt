@@ -47,7 +47,7 @@ pub record Table : Type 0 where
   pub header_only_row :
       hash_of (first 0x80) (0x80 ∷ []) [] ≡ block_of (0x80 ∷ zeros 6 ++ (0x08 ∷ zeros 8))
 
--- the same readings, as the calls answer them
+-- those of the readings that the calls answer
 abbrev pub table_readings : Pad → Readings
 table_readings pad = record {
   nibble_product = nibble 0b1010;

@@ -1,7 +1,7 @@
 // A table of readings, worked out by the library's calls and proved of the definitions.
 //
-// Whoever reads a definition can hold it beside a value that is known from elsewhere: each row of the table says of the definitions
-// what a call answers and a program may print.
+// Whoever reads a definition can hold it beside a value that is known from elsewhere: each row of the table says one of the definitions,
+// and the calls answer nine of them, which a program may print.
 #![tactic(auto)]
 
 ghost use Rattle.std.specs.Prelude.{◌≡◌, Ok};

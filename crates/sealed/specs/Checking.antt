@@ -1,6 +1,6 @@
 -- What the engine is after a check.
 use Rattle.std.specs.Prelude.{◌≡◌, ℕ, List, MatchBool, Result, MatchResult, ◌==◌}
-use Rattle.refusal.specs.Refusals.{refusal_number as refusal_number}
+use Rattle.refusal.specs.Refusals.{refusal_number}
 use Rattle.refusal.specs.declared.Refusal.{Refusal}
 use Rattle.engine.specs.declared.engine.Engine.{Ghosts}
 use Rattle.format.specs.Faults.{header_in, body_in}

@@ -3,10 +3,12 @@ use crate::sealed::Sealed;
 use format::Lengths;
 use refusal::Refusal;
 
-/// An engine that comes back, and what the call that took it answers: it comes back after a refusal too.
+/// What a call answers, together with the engine that it took.
 #[derive(Drop)]
 pub struct WithEngine<E, T> {
+    /// The engine, which comes back after a refusal too.
     pub engine: E,
+    /// What the call answers.
     pub answer: Result<T, Refusal>,
 }
 

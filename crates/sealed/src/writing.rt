@@ -35,7 +35,7 @@ fn count_blocks(header: usize, body: usize, output: usize) -> Result<u32, Refusa
 }
 
 // Hashes a message, where its file fits an output of this many bytes. A refusal comes before the engine is touched. The limits of a
-// message refuse nothing here, since a file holds less than they allow.
+// message refuse nothing more: a longer header is refused by then, and a file holds less body than the limit.
 fn hash_for_file<E: Engine>(
     engine: &mut E,
     pad: Pad,

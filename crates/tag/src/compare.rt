@@ -1,7 +1,7 @@
 // The comparison of tags.
 //
-// All pairs of bytes are xored and the differences gathered with an or: it is zero exactly where no pair differs. No byte ends the
-// comparison early, so that its time does not tell how many first bytes were right.
+// All pairs of bytes are xored and the differences gathered with an or: it is zero exactly where no pair differs. All of them are looked
+// at, wherever the first difference stands.
 ghost use Rattle.std.specs.Prelude.{◌≡◌, ◌≤◌, length};
 ghost use Rattle.tag.specs.Tags.{begins_tag, longest_tag};
 
