@@ -67,7 +67,10 @@ fn print_case(rt: &HostRuntime, number: &str, case: &Case, more: bool) -> Result
     let digest = case.message().hash_and_tag(case.subkey, case.pad)?;
     let same = digest == case.digest;
     let verdict = if same { "as published" } else { "DIFFERS" };
-    println!(rt; "case {number}: hash {} tag {} {verdict}", digest.hash, digest.tag.0)?;
+    println!(rt;
+        "case {number}: hash {} tag {} {verdict}",
+        digest.hash, digest.tag.0
+    )?;
     print_made(rt, case.subkey)?;
     print_engines(rt, case, digest.hash)?;
     if more {
