@@ -4,7 +4,7 @@ use crate::timing::{time, time_tries};
 use engine::Step;
 use field::{Block, Element};
 use format::{BLOCK_BYTES, CHECK_AT, block_check};
-use message::Message;
+use message::{Message, Pad};
 use sealed::{check_file, write_file};
 use tag::tag_message;
 
@@ -19,19 +19,19 @@ fn headless(body: &[u8]) -> Message<'_> {
 
 // The tag under a pad. Each pad is the tag before, so that no hash can be left out.
 fn tag_after(pad: Block, body: &[u8]) -> Block {
-    tag_message(&mut Step::new(key()), pad, headless(body)).map_or(pad, |digest| digest.tag)
+    tag_message(&mut Step::new(key()), Pad(pad), headless(body)).map_or(pad, |digest| digest.tag.0)
 }
 
 // Whether the file is written.
 fn writes(body: &[u8], file: &mut [u8]) -> bool {
-    write_file(Step::new(key()), Block::one(), headless(body), file)
+    write_file(Step::new(key()), Pad(Block::one()), headless(body), file)
         .answer
         .is_ok()
 }
 
 // Whether the file is accepted.
 fn accepts(file: &[u8]) -> bool {
-    check_file(Step::new(key()), Block::one(), file)
+    check_file(Step::new(key()), Pad(Block::one()), file)
         .answer
         .is_ok()
 }

@@ -5,7 +5,7 @@ use division::Division;
 use engine::{Engine, Step};
 use field::{Block, Element};
 use job::{BodyJob, Closed, HeaderJob};
-use message::block_of_byte_counts;
+use message::{Digest, Pad, block_of_byte_counts};
 
 const BLOCKS: u32 = 1536;
 
@@ -14,7 +14,6 @@ const BYTES: usize = 16 * BLOCKS as usize;
 fn body() -> [u8; BYTES] {
     let mut bytes = [0u8; BYTES];
     let mut next = 1u8;
-    // No fold: each step writes a byte and hands the next one on.
     for byte in &mut bytes {
         *byte = next;
         next = next.wrapping_mul(5).wrapping_add(3);
@@ -30,12 +29,8 @@ fn plain<E: Engine>(mut engine: E, body: &[u8]) -> Closed<E> {
         engine.absorb(Block::from_bytes(*bytes));
     }
     engine.absorb(block_of_byte_counts(0, body.len() as u64));
-    let hash = engine.value();
-    Closed {
-        engine,
-        hash,
-        tag: hash,
-    }
+    let digest = Digest::new(engine.value(), Pad(Block::zero()));
+    Closed { engine, digest }
 }
 
 // The same by a job, fed in pieces of some size.
@@ -44,7 +39,7 @@ fn fed<E: Engine>(engine: E, body: &[u8], size: usize) -> Closed<E> {
     for piece in body.chunks(size.max(1)) {
         let _ = job.feed(piece);
     }
-    job.close(Block::zero())
+    job.close(Pad(Block::zero()))
 }
 
 // What was closed last, and whether all that was closed before it had the same hash.
@@ -64,13 +59,9 @@ fn measure<E: Engine + Drop, W: FnMut(E) -> Closed<E>>(
     requires { (state : W) (x : _) → W.pre state x }
 {
     time(rt, count, laps, |laps| {
-        let Closed {
-            engine,
-            hash,
-            tag: _,
-        } = laps.closed;
+        let Closed { engine, digest } = laps.closed;
         let closed = way(engine);
-        let same = laps.same && closed.hash == hash;
+        let same = laps.same && closed.digest == digest;
         Laps { closed, same }
     })
 }

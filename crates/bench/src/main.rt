@@ -67,7 +67,6 @@ fn run(rt: &HostRuntime) -> anyhow::Result<()> {
         return Ok(());
     };
     let count = count.parse::<u32>()?;
-    // A plain match: an enum or a table of functions between a word and its call would be no plainer.
     match what.as_str() {
         "product" => product(rt, count),
         "trial" => tries(rt, count, "trial", "accepted", accepts),

@@ -1,82 +1,79 @@
--- An element added at the places of the ones, and the coefficients that come of it.
+-- The places of the ones, and what comes of adding an element there.
 use Rattle.std.proofs.Common.{◌≡◌, ℕ, zero, suc, ◌+◌, ◌<◌, ◌≤◌, Bool, true, false, cond, List, [], ◌∷◌, ◌++◌, length, get_or, take, set, filter, sym, refl, ap, ◌∙◌, append_assoc, add-one, arith}
-use Rattle.std.specs.List.{range_with_len}
-use Rattle.std.proofs.lemmas.List.FromFn.{filter_of_map_range_with_len_more}
+use Rattle.std.specs.List.{range_with_len, All}
+use Rattle.std.proofs.lemmas.List.Elements.{All-filter, All-from_get_or}
+use Rattle.std.proofs.lemmas.List.FromFn.{length-range_with_len, get_or-range_with_len, filter_of_map_range_with_len_more}
+use Rattle.std.proofs.lemmas.List.Sums.{length-filter, count_by-le-length}
 use Rattle.std.proofs.lemmas.List.{map-id, set_at, get_or_at, length_push}
 use Rattle.field.specs.Ring.{CommutativeRing}
 use Rattle.field.specs.declared.element.Element.{Ghosts}
-use Rattle.division.specs.Places.{ones_of, added}
-use Rattle.division.proofs.Reductions.{reduced}
+use Rattle.division.specs.Places.{one_places, sum_at_places}
+use Rattle.division.proofs.Reductions.{remainder_from}
 
 -- ---- the places
 
-one_below : (b : Bool) (j limit : ℕ) (ps : List ℕ) → j < limit → ((k : ℕ) → k < length ps → get_or ps k 0 < limit)
-    → (k : ℕ) → k < length (cond b (j ∷ ps) ps) → get_or (cond b (j ∷ ps) ps) k 0 < limit
-one_below true j limit ps here rest zero lt = here
-one_below true j limit ps here rest (suc k) lt = rest k (omega arith)
-one_below false j limit ps here rest k lt = rest k lt
-
-below_from : (bits : ℕ → Bool) (j n limit : ℕ) → j + n ≡ limit → (k : ℕ) → k < length (filter bits (range_with_len j n))
-    → get_or (filter bits (range_with_len j n)) k 0 < limit
-below_from bits j zero limit e k lt = absurd (omega arith)
-below_from bits j (suc n) limit e k lt =
-    one_below (bits j) j limit (filter bits (range_with_len (j + 1) n)) (omega arith) (below_from bits (j + 1) n limit (omega arith)) k lt
-
 -- every place is below n
-pub ones_below : (n : ℕ) (bits : ℕ → Bool) (k : ℕ) → k < length (ones_of n bits) → get_or (ones_of n bits) k 0 < n
-unfolding ones_of
-ones_below n bits = below_from bits 0 n n (omega arith)
+pub get_or-one_places : (n : ℕ) (bits : ℕ → Bool) (k : ℕ) → k < length (one_places n bits) → get_or (one_places n bits) k 0 < n
+unfolding one_places
+get_or-one_places n bits k lt =
+    let IsBelow : ℕ → Type 0 = λ place. place < n in
+    let tried : List ℕ = range_with_len 0 n in
+    let all_below : All IsBelow tried =
+    All-from_get_or IsBelow tried 0 (λ i within.
+    let tried_here : i < n = omega (arith, length-range_with_len 0 n) in
+    omega (arith, get_or-range_with_len 0 n i 0 tried_here)) in
+    All-filter bits IsBelow tried all_below k 0 lt
 
 -- one coefficient more
-pub ones_more : (j : ℕ) (bits : ℕ → Bool) → ones_of (j + 1) bits ≡ ones_of j bits ++ cond (bits j) (j ∷ []) []
-unfolding ones_of
-ones_more j bits =
+pub one_places-add_one : (j : ℕ) (bits : ℕ → Bool) → one_places (j + 1) bits ≡ one_places j bits ++ cond (bits j) (j ∷ []) []
+unfolding one_places
+one_places-add_one j bits =
     ap (filter bits) (sym (map-id (range_with_len 0 (j + 1))))
     ∙ filter_of_map_range_with_len_more bits (λ k. k) 0 j j (omega arith)
     ∙ ap (λ ks. filter bits ks ++ cond (bits j) (j ∷ []) []) (map-id (range_with_len 0 j))
 
-one_short : (b : Bool) (j n : ℕ) (ps : List ℕ) → length ps ≤ n → length (cond b (j ∷ ps) ps) ≤ suc n
-one_short true j n ps le = omega arith
-one_short false j n ps le = omega arith
-
-short_from : (bits : ℕ → Bool) (j n : ℕ) → length (filter bits (range_with_len j n)) ≤ n
-short_from bits j zero = omega arith
-short_from bits j (suc n) = one_short (bits j) j n (filter bits (range_with_len (j + 1) n)) (short_from bits (j + 1) n)
-
 -- there are no more than n
-pub ones_short : (n : ℕ) (bits : ℕ → Bool) → length (ones_of n bits) ≤ n
-unfolding ones_of
-ones_short n bits = short_from bits 0 n
+pub length-one_places : (n : ℕ) (bits : ℕ → Bool) → length (one_places n bits) ≤ n
+unfolding one_places
+length-one_places n bits =
+    omega (
+      arith,
+      length-filter bits (range_with_len 0 n),
+      count_by-le-length bits (range_with_len 0 n),
+      length-range_with_len 0 n,
+    )
 
 -- ---- what is added
 
 module _ {K : Type 0} (m : Ghosts K) (laws : CommutativeRing m.zero m.one m.sum m.product) (top : K) (bits : ℕ → Bool) where
-  -- the first of a part is dealt with, and the others are still to come
-  one_place : (b : Bool) (j : ℕ) (ps : List ℕ) (front : List K) (below : K) (ws : List K) → length front ≡ j
-      → added m top (cond b (j ∷ ps) ps) (front ++ (below ∷ ws)) ≡ added m top ps ((front ++ (m.sum below (cond b top m.zero) ∷ [])) ++ ws)
-  one_place true j ps front below ws long =
-      ap (added m top ps)
-      (ap (λ x. set (front ++ (below ∷ ws)) j (m.sum x top)) (get_or_at front below ws m.zero j long)
-      ∙ set_at front below ws (m.sum below top) j long
-      ∙ sym (append_assoc front (m.sum below top ∷ []) ws))
-  one_place false j ps front below ws long =
-      ap (added m top ps)
-      (ap (λ x. front ++ (x ∷ ws)) (sym (laws.sum_zero below)) ∙ sym (append_assoc front (m.sum below m.zero ∷ []) ws))
+  -- The coefficient of t^j is dealt with, by an addition or by none, and the places above it are still to come.
+  one_place : (b : Bool) (j : ℕ) (places : List ℕ) (below : List K) (c : K) (above : List K) → length below ≡ j
+      → sum_at_places m top (cond b (j ∷ places) places) (below ++ (c ∷ above))
+      ≡ sum_at_places m top places ((below ++ (m.sum c (cond b top m.zero) ∷ [])) ++ above)
+  one_place true j places below c above at =
+      ap (sum_at_places m top places)
+      (ap (λ x. set (below ++ (c ∷ above)) j (m.sum x top)) (get_or_at below c above m.zero j at)
+      ∙ set_at below c above (m.sum c top) j at
+      ∙ sym (append_assoc below (m.sum c top ∷ []) above))
+  one_place false j places below c above at =
+      ap (sum_at_places m top places)
+      (ap (λ x. below ++ (x ∷ above)) (sym (laws.sum_zero c)) ∙ sym (append_assoc below (m.sum c m.zero ∷ []) above))
 
-  added_from : (j n : ℕ) (front : List K) (below : K) (ws : List K) → length front ≡ j → length ws ≡ n
-      → added m top (filter bits (range_with_len j n)) (front ++ take n (below ∷ ws)) ≡ front ++ reduced m top bits j below ws
-  added_from j zero front below [] at long = refl
-  added_from j zero front below (w ∷ ws) at long = absurd (omega arith)
-  added_from j (suc n) front below [] at long = absurd (omega arith)
-  added_from j (suc n) front below (w ∷ ws) at long =
-      let here : K = m.sum below (cond (bits j) top m.zero) in
-      one_place (bits j) j (filter bits (range_with_len (j + 1) n)) front below (take n (w ∷ ws)) at
-      ∙ added_from (j + 1) n (front ++ (here ∷ [])) w ws (length_push front here ∙ ap (λ k. k + 1) at) (omega arith)
-      ∙ append_assoc front (here ∷ []) (reduced m top bits (j + 1) w ws)
-      ∙ ap (λ k. front ++ (here ∷ reduced m top bits k w ws)) (add-one j)
+  sum_at_from : (j n : ℕ) (below : List K) (c : K) (cs : List K) → length below ≡ j → length cs ≡ n
+      → sum_at_places m top (filter bits (range_with_len j n)) (below ++ take n (c ∷ cs))
+      ≡ below ++ remainder_from m top bits j c cs
+  sum_at_from j zero below c [] at long = refl
+  sum_at_from j zero below c (d ∷ cs) at long = absurd (omega arith)
+  sum_at_from j (suc n) below c [] at long = absurd (omega arith)
+  sum_at_from j (suc n) below c (d ∷ cs) at long =
+      let here : K = m.sum c (cond (bits j) top m.zero) in
+      one_place (bits j) j (filter bits (range_with_len (j + 1) n)) below c (take n (d ∷ cs)) at
+      ∙ sum_at_from (j + 1) n (below ++ (here ∷ [])) d cs (length_push below here ∙ ap (λ k. k + 1) at) (omega arith)
+      ∙ append_assoc below (here ∷ []) (remainder_from m top bits (j + 1) d cs)
+      ∙ ap (λ k. below ++ (here ∷ remainder_from m top bits k d cs)) (add-one j)
 
-  -- every coefficient one place up, and `top` added at the ones
-  pub added_reduced : (n : ℕ) (ws : List K) → length ws ≡ n
-      → added m top (ones_of n bits) (take n (m.zero ∷ ws)) ≡ reduced m top bits 0 m.zero ws
-  unfolding ones_of
-  added_reduced n ws long = added_from 0 n [] m.zero ws refl long
+  -- Coefficients moved one place up, with `top` added at the places of the ones, are the remainder.
+  pub sum_at_places-one_places : (n : ℕ) (cs : List K) → length cs ≡ n
+      → sum_at_places m top (one_places n bits) (take n (m.zero ∷ cs)) ≡ remainder_from m top bits 0 m.zero cs
+  unfolding one_places
+  sum_at_places-one_places n cs long = sum_at_from 0 n [] m.zero cs refl long

@@ -2,7 +2,7 @@
 use Rattle.std.proofs.Common.{◌≡◌, ℕ, suc, ◌≤◌, List, [], ◌∷◌, ◌++◌, length, get_or, drop, sym, refl, ap, ◌∙◌, ap₂, arith}
 use Rattle.field.specs.Ring.{CommutativeRing}
 use Rattle.field.specs.declared.element.Element.{Ghosts}
-use Rattle.division.specs.Remainders.{sum_of, scaled, product_of, Divided, IsOnlyRemainder}
+use Rattle.division.specs.Remainders.{sum_of, scalar_multiple, product_of, IsRemainder, IsOnlyRemainder}
 
 module _ {K : Type 0} (m : Ghosts K) (laws : CommutativeRing m.zero m.one m.sum m.product) where
   back : (x y : K) → m.sum (m.sum x y) (laws.negative x) ≡ y
@@ -35,7 +35,7 @@ module _ {K : Type 0} (m : Ghosts K) (laws : CommutativeRing m.zero m.one m.sum 
 
   -- c times the divisor: its highest coefficient is c·1
   abbrev multiple : K → List K → List K
-  multiple c ds = scaled m c (ds ++ (m.one ∷ []))
+  multiple c ds = scalar_multiple m c (ds ++ (m.one ∷ []))
 
   length_multiple : (c : K) (ds : List K) → length (multiple c ds) ≡ suc (length ds)
   length_multiple c [] = refl
@@ -108,7 +108,7 @@ module _ {K : Type 0} (m : Ghosts K) (laws : CommutativeRing m.zero m.one m.sum 
       (cancel (m.sum (m.product c d) m.zero) x y lowest)
       (same_rest c ds r s (omega arith) (omega arith) (left ∙ ap (λ u. sum_of m (multiple u ds) s) top))
 
-  pub only_remainder : (polynomial ds r : List K) (n : ℕ) → length ds ≡ n → Divided m polynomial (ds ++ (m.one ∷ [])) r n
-      → IsOnlyRemainder m polynomial (ds ++ (m.one ∷ [])) r n
-  only_remainder polynomial ds r n long a s b =
+  pub only_remainder : (dividend ds r : List K) (n : ℕ) → length ds ≡ n → IsRemainder m dividend (ds ++ (m.one ∷ [])) r n
+      → IsOnlyRemainder m dividend (ds ++ (m.one ∷ [])) r n
+  only_remainder dividend ds r n long a s b =
       same_remainder ds b.quotient a.quotient s r (b.short ∙ sym long) (a.short ∙ sym long) (sym b.whole ∙ a.whole)

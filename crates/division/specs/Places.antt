@@ -1,13 +1,14 @@
--- The places of a polynomial's ones, and a row with an element added at places.
+-- The places of a divisor's ones, and a polynomial with a constant added at places.
 use Rattle.std.specs.Prelude.{ℕ, Bool, List, [], ◌∷◌, filter, slice_index_or, slice_set}
 use Rattle.std.specs.List.{range_with_len}
 use Rattle.field.specs.declared.element.Element.{Ghosts}
 
--- those of the first n coefficients that are one, in order
-unfoldable pub ones_of : ℕ → (ℕ → Bool) → List ℕ
-ones_of n bits = filter bits (range_with_len 0 n)
+-- each place below n whose coefficient is one, the lowest first
+unfoldable pub one_places : ℕ → (ℕ → Bool) → List ℕ
+one_places n bits = filter bits (range_with_len 0 n)
 
--- x added at each of these places
-abbrev pub added : {K : Type 0} → Ghosts K → K → List ℕ → List K → List K
-added m x [] ws = ws
-added m x (p ∷ ps) ws = added m x ps (slice_set ws p (m.sum (slice_index_or ws p m.zero) x))
+-- the coefficients with x added at each of these places in turn
+abbrev pub sum_at_places : {K : Type 0} → Ghosts K → K → List ℕ → List K → List K
+sum_at_places m x [] cs = cs
+sum_at_places m x (place ∷ places) cs =
+    sum_at_places m x places (slice_set cs place (m.sum (slice_index_or cs place m.zero) x))

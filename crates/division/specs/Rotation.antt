@@ -1,5 +1,6 @@
--- A row that begins at some place of a list and goes round its end.
+-- A ring that begins at some place of a list and goes on from the list's end to its front.
 use Rattle.std.specs.Prelude.{ℕ, List, ◌++◌, take, drop}
 
-unfoldable pub rotated : {K : Type 0} → ℕ → List K → List K
-rotated base state = drop base state ++ take base state
+-- the elements in the ring's order
+unfoldable pub rotation : {K : Type 0} → ℕ → List K → List K
+rotation base state = drop base state ++ take base state

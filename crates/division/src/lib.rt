@@ -1,9 +1,8 @@
-// The division engine: a polynomial in t over blocks, divided by an accepted polynomial at each block, stands for the hash's value.
+// The division engine: a polynomial over blocks stands for the hash's value, and a division by an accepted polynomial for its product.
 #![tactic(auto)]
 
 mod division;
 mod divisor;
-mod reduce;
 mod ring;
 
 pub use division::Division;

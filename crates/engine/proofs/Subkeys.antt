@@ -1,4 +1,4 @@
--- A pair that is ready has one subkey.
+-- The two engines of a pair that is ready hash under one subkey.
 use Rattle.std.proofs.Common.{◌≡◌, Bool, true, sym, ◌∙◌, eqb-true}
 use Rattle.field.specs.Instances.{same_block}
 use Rattle.engine.specs.Pairs.{pair_ready}
@@ -6,5 +6,7 @@ use Rattle.engine.specs.declared.engine.Engine.{Ghosts}
 use Rattle.engine.specs.declared.pair.Pair.{Pair}
 
 module _ {A B : Type 0} (a : Ghosts A) (b : Ghosts B) where
-  pub one_subkey : (p : Pair A B) {ready : Bool} → ready ≡ pair_ready a b p → ready ≡ true → a.subkey_of p.first ≡ b.subkey_of p.second
-  one_subkey p answer accepted = same_block _ _ (eqb-true _ _ (sym answer ∙ accepted))
+  pub one_subkey : (pair : Pair A B) {ready : Bool}
+      → ready ≡ pair_ready a b pair → ready ≡ true
+      → a.subkey_of pair.first ≡ b.subkey_of pair.second
+  one_subkey pair answer accepted = same_block _ _ (eqb-true _ _ (sym answer ∙ accepted))

@@ -1,20 +1,23 @@
--- A chain of operations on an engine: each in turn, by the engine's own relation.
+-- What an engine goes through: operations one after another, each by the engine's own relation.
 use Rattle.std.specs.Prelude.{◌≡◌, Bool, List, [], ◌∷◌}
-use Rattle.field.specs.declared.kinds.Block.{Block}
+use Rattle.field.specs.declared.block.Block.{Block}
 use Rattle.engine.specs.declared.engine.Engine.{Ghosts}
 
+-- a call that changes an engine: a resume at a value, an absorb of a block, a switch and whether it was accepted
 pub data Operation : Type 0 where
   resume : Block → Operation
   absorb : Block → Operation
   switch : Bool → Operation
 
 module _ {E : Type 0} (m : Ghosts E) where
+  -- the engine before an operation and after it
   abbrev pub Does : Operation → E → E → Type 0
-  Does (resume value) before after = m.resumed before value after
-  Does (absorb block) before after = m.absorbed before block after
-  Does (switch accepted) before after = m.switched before accepted after
+  Does (resume value) before after = m.resumes before value after
+  Does (absorb block) before after = m.absorbs before block after
+  Does (switch accepted) before after = m.switches before accepted after
 
-  -- nothing changes nothing; else one operation, and the rest from there
+  -- the engine before a list of operations and after it: no operation leaves it as it was
   abbrev pub Chain : List Operation → E → E → Type 0
   Chain [] before after = after ≡ before
-  Chain (o ∷ os) before after = (between : E) × Does o before between × Chain os between after
+  Chain (operation ∷ rest) before after =
+      (between : E) × Does operation before between × Chain rest between after

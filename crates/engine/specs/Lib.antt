@@ -1,4 +1,5 @@
 pub mod Hashing
 pub mod Chain
+pub mod Steps
 pub mod Pairs
 pub mod Rows

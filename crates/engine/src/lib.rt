@@ -1,4 +1,4 @@
-// Engines: what hashes blocks one by one, and pairs of engines that hand over to each other.
+// Engines: what hashes blocks one at a time, the plain way to do it, and pairs of engines that hand over to each other.
 #![tactic(auto)]
 
 mod engine;

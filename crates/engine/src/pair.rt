@@ -1,18 +1,26 @@
 // Two engines, of which one runs, and a switch from one to the other.
+//
+// Blocks reach only the engine that runs; the other one's value falls behind. A switch lets the other go on from the value of the one
+// that ran: under one subkey both would have computed it, so nothing is hashed twice and the pair's value stays what it is. Under two
+// subkeys the value would mean nothing to the other, and the switch is refused.
+//
+// The two engines may differ in type, so that each method has its own match on the side that runs. A pair is an engine itself, and may
+// stand in a pair.
 ghost use Rattle.std.specs.Prelude.{◌≡◌};
-ghost use Rattle.engine.specs.Hashing.{hash_step};
-ghost use Rattle.engine.specs.Pairs.{OtherKept, pair_of, pairs_of};
+ghost use Rattle.engine.specs.Pairs.{PairsAbsorb, pair_of};
 
 use crate::engine::Engine;
 use field::Block;
 use refusal::Refusal;
 
+/// Which engine of a pair.
 #[derive(Clone, Copy, PartialEq, Eq, Debug)]
 pub enum Side {
     First,
     Second,
 }
 
+/// Two engines, of which one runs. Its subkey and its value are those of the engine that runs.
 #[derive(Drop)]
 pub struct Pair<A, B> {
     pub(crate) first: A,
@@ -21,7 +29,7 @@ pub struct Pair<A, B> {
 }
 
 impl<A: Engine, B: Engine> Pair<A, B> {
-    // The first one runs.
+    /// A pair of two engines as they are, of which the first runs. It is ready for a switch where their subkeys are equal.
     pub fn new(first: A, second: B) -> Pair<A, B>
         ensures { result ≡ record { first = first; second = second; running = Side.First } }
     {
@@ -32,12 +40,14 @@ impl<A: Engine, B: Engine> Pair<A, B> {
         }
     }
 
+    /// The side of the engine that runs.
     pub fn running(&self) -> Side
         ensures { result ≡ self.now.running }
     {
         self.running
     }
 
+    /// Both engines as they are. The one that does not run has the value that it had when it last ran, or was handed in with.
     pub fn into_parts(self) -> (A, B)
         ensures { result ≡ (self.first, self.second) }
     {
@@ -50,6 +60,7 @@ impl<A: Engine, B: Engine> Pair<A, B> {
     }
 }
 
+/// A switch is accepted where both engines hash under one subkey; else it is refused as `NotReady` (6), and the pair is as it was.
 impl<A: Engine, B: Engine> Engine for Pair<A, B> {
     ghost subkey_of = { (pair_of A.Engine B.Engine).subkey_of };
 
@@ -57,13 +68,12 @@ impl<A: Engine, B: Engine> Engine for Pair<A, B> {
 
     ghost ready_of = { (pair_of A.Engine B.Engine).ready_of };
 
-    ghost absorbed = { (pair_of A.Engine B.Engine).absorbed };
+    ghost absorbs = { (pair_of A.Engine B.Engine).absorbs };
 
-    ghost resumed = { (pair_of A.Engine B.Engine).resumed };
+    ghost resumes = { (pair_of A.Engine B.Engine).resumes };
 
-    ghost switched = { (pair_of A.Engine B.Engine).switched };
+    ghost switches = { (pair_of A.Engine B.Engine).switches };
 
-    // One `match` for each method: the two engines differ in type, so that no helper can answer the one that runs.
     fn subkey(&self) -> Block {
         match self.running {
             Side::First => self.first.subkey(),
@@ -78,7 +88,6 @@ impl<A: Engine, B: Engine> Engine for Pair<A, B> {
         }
     }
 
-    // The value of one is the other's to go on from only under the same subkey.
     fn ready(&self) -> bool {
         self.first.subkey() == self.second.subkey()
     }
@@ -115,14 +124,12 @@ impl<A: Engine, B: Engine> Engine for Pair<A, B> {
     }
 }
 
-// A pair of pairs is an engine like any other: a block reaches only the pair that runs.
+/// Takes a block into two pairs: it reaches the engine that runs in the pair that runs, and the other pair is as it was.
 pub fn absorb_in_pairs<A: Engine, B: Engine, C: Engine, D: Engine>(
     pairs: &mut Pair<Pair<A, B>, Pair<C, D>>,
     block: Block,
 )
-    ensures value { (pairs_of A.Engine B.Engine C.Engine D.Engine).value_of pairs.new ≡ hash_step ((pairs_of A.Engine B.Engine C.Engine D.Engine).subkey_of pairs.old) ((pairs_of A.Engine B.Engine C.Engine D.Engine).value_of pairs.old) block }
-    ensures other { OtherKept pairs.old.running pairs.old pairs.new }
-    ensures whole { (pairs_of A.Engine B.Engine C.Engine D.Engine).absorbed pairs.old block pairs.new }
+    ensures { PairsAbsorb A.Engine B.Engine C.Engine D.Engine pairs.old block pairs.new }
 {
     pairs.absorb(block);
 }

@@ -1,12 +1,17 @@
 // The plain engine: one product for each block.
+//
+// It holds T itself, and a block P makes T become (T + P)·H by the field's own sum and product. So it needs nothing but the subkey, and
+// T can be read off at any time for nothing. Other engines save the product; this one is what they are compared with.
 ghost use Rattle.std.specs.Prelude.{◌≡◌, false};
 ghost use Rattle.field.specs.Kinds.{block_ring};
-ghost use Rattle.engine.specs.Hashing.{hash_step};
+ghost use Rattle.engine.specs.Hashing.{NeverSwitches};
+ghost use Rattle.engine.specs.Steps.{StepAbsorbs, StepResumes};
 
 use crate::engine::Engine;
 use field::{Block, Element};
 use refusal::Refusal;
 
+/// The step engine: its subkey and its value, as they are.
 #[derive(Drop)]
 pub struct Step {
     pub(crate) subkey: Block,
@@ -14,6 +19,7 @@ pub struct Step {
 }
 
 impl Step {
+    /// An engine under this subkey that has taken in nothing: its value is zero.
     pub fn new(subkey: Block) -> Step
         ensures { result ≡ record { subkey = subkey; value = block_ring.zero } }
     {
@@ -24,18 +30,19 @@ impl Step {
     }
 }
 
+/// A switch is always refused: there is nothing to switch to.
 impl Engine for Step {
-    ghost subkey_of = { λ e. e.subkey };
+    ghost subkey_of = { λ engine. engine.subkey };
 
-    ghost value_of = { λ e. e.value };
+    ghost value_of = { λ engine. engine.value };
 
     ghost ready_of = { λ _. false };
 
-    ghost absorbed = { λ e p f. f ≡ record { subkey = e.subkey; value = hash_step e.subkey e.value p } };
+    ghost absorbs = { StepAbsorbs };
 
-    ghost resumed = { λ e t f. f ≡ record { subkey = e.subkey; value = t } };
+    ghost resumes = { StepResumes };
 
-    ghost switched = { λ e accepted f. (accepted ≡ false) × (f ≡ e) };
+    ghost switches = { NeverSwitches };
 
     fn subkey(&self) -> Block {
         self.subkey
@@ -45,14 +52,12 @@ impl Engine for Step {
         self.value
     }
 
-    // Alone, it has nothing to switch to. Written here, like `switch`, since no default body holds of every engine.
     fn ready(&self) -> bool {
         false
     }
 
-    // A step of the evaluation and no `evaluate` of a row: an engine takes one block at a time, and may be asked for T after each.
     fn absorb(&mut self, block: Block) {
-        self.value = self.value.plus(block).times(self.subkey);
+        self.value = (self.value + block) * self.subkey;
     }
 
     fn resume(&mut self, value: Block) {

@@ -1,7 +1,7 @@
 -- Digits in any base, and the numbers that they write.
 use Rattle.std.proofs.Common.{◌≡◌, ℕ, zero, suc, ◌+◌, ◌*◌, ◌/◌, ◌%◌, ◌^◌, ◌<◌, List, [], ◌∷◌, ◌++◌, length, get_or, sym, refl, ap, ◌∙◌, subst, ap₂, add_assoc, mod-lt, mod-eq_of_lt, mul_assoc, mul_comm, add-mul, add_comm, suc-add, mul-pos, pow-suc, div-add-mod', zero-add, zero-mul, arith, length-append, pow-add}
-use native.Mathlib.Nat.{pow-zero, mod-one, mul-add-mod_self_right, div-div-eq-div-mul}
-use lib.Arith.{digits_lt, digits_div, mod-mul}
+use Rattle.std.proofs.Math.Nat.{pow-zero, mod-one, mul-add-mod_self_right, div-div-eq-div-mul}
+use Rattle.std.proofs.Math.Arith.{digits_lt, digits_div, mod-mul}
 use Rattle.field.specs.Digits.{numeral, digits}
 
 -- a list, spelled out by its elements
@@ -9,9 +9,13 @@ abbrev pub spelled : {X : Type 0} → ℕ → (ℕ → X) → List X
 spelled zero at = []
 spelled (suc n) at = at zero ∷ spelled n (λ k. at (suc k))
 
-pub spells_list : {X : Type 0} (none : X) (xs : List X) → xs ≡ spelled (length xs) (λ k. get_or xs k none)
+spells_list : {X : Type 0} (none : X) (xs : List X) → xs ≡ spelled (length xs) (λ k. get_or xs k none)
 spells_list none [] = refl
 spells_list none (x ∷ xs) = ap (λ ys. x ∷ ys) (spells_list none xs)
+
+-- the same where the length is known
+pub spells_length : {X : Type 0} (none : X) (xs : List X) (n : ℕ) → length xs ≡ n → xs ≡ spelled n (λ k. get_or xs k none)
+spells_length none xs n long = spells_list none xs ∙ ap (λ (k : ℕ). spelled k (λ i. get_or xs i none)) long
 
 pub spells : (xs : List ℕ) → xs ≡ spelled (length xs) (λ k. get_or xs k 0)
 spells = spells_list 0
@@ -46,7 +50,7 @@ digits_append base (suc s) t v =
     (digits_append base s t v)
 
 module _ (base : ℕ) (positive : zero < base) where
-  pub pow_positive : (n : ℕ) → zero < base ^ n
+  pow_positive : (n : ℕ) → zero < base ^ n
   pow_positive zero = rw pow-zero (omega arith)
   pow_positive (suc n) = subst (λ (p : ℕ). zero < p) (sym (pow-suc base n)) (mul-pos (pow_positive n) positive)
 
@@ -57,16 +61,18 @@ module _ (base : ℕ) (positive : zero < base) where
   unfolding numeral
   numeral_lt [] small = rw pow-zero (omega arith)
   numeral_lt (x ∷ xs) small =
-      subst (λ (n : ℕ). x * base ^ length xs + numeral base xs < n) (mul_comm base (base ^ length xs) ∙ sym (pow-suc base (length xs)))
+      subst (λ (n : ℕ). x * base ^ length xs + numeral base xs < n)
+      (mul_comm base (base ^ length xs) ∙ sym (pow-suc base (length xs)))
       (digits_lt (small zero) (numeral_lt xs (λ k. small (suc k))))
 
   -- what lies above the n lowest digits does not matter
-  pub digits_high : (n q r : ℕ) → digits base n (q * base ^ n + r) ≡ digits base n r
+  digits_high : (n q r : ℕ) → digits base n (q * base ^ n + r) ≡ digits base n r
   unfolding digits
   digits_high zero q r = refl
   digits_high (suc n) q r =
       let apart : q * base ^ suc n + r ≡ q * base * base ^ n + r =
-      ap (λ (x : ℕ). x + r) (ap (λ (x : ℕ). q * x) (pow-suc base n ∙ mul_comm (base ^ n) base) ∙ sym (mul_assoc q base (base ^ n))) in
+      ap (λ (x : ℕ). x + r)
+      (ap (λ (x : ℕ). q * x) (pow-suc base n ∙ mul_comm (base ^ n) base) ∙ sym (mul_assoc q base (base ^ n))) in
       let split : r ≡ r / base ^ n * base ^ n + r % base ^ n = sym (div-add-mod' r (base ^ n)) in
       let joined : q * base * base ^ n + r ≡ (q * base + r / base ^ n) * base ^ n + r % base ^ n =
       ap (λ (x : ℕ). q * base * base ^ n + x) split

@@ -1,8 +1,7 @@
 -- Horner's rule, from the laws of a commutative ring.
-use Rattle.std.proofs.Common.{◌≡◌, ℕ, suc, ◌+◌, ◌<◌, List, [], ◌∷◌, ◌++◌, fold, length, get_or, take, sym, refl, ap, ◌∙◌, ap₂, append_assoc, append-nil, add-one, length-append}
-use Rattle.std.proofs.lemmas.List.{take_more}
+use Rattle.std.proofs.Common.{◌≡◌, suc, List, [], ◌∷◌, ◌++◌, fold, length, sym, refl, ap, ◌∙◌, ap₂, append_assoc, append-nil, add-one, length-append}
 use Rattle.field.specs.Ring.{CommutativeRing}
-use Rattle.field.specs.Evaluation.{power, eval, eval_from, absorbed}
+use Rattle.field.specs.Evaluation.{power, eval, eval_from, horner}
 use Rattle.field.specs.declared.element.Element.{Ghosts}
 
 module _ {R : Type 0} (m : Ghosts R) (laws : CommutativeRing m.zero m.one m.sum m.product) where
@@ -16,7 +15,7 @@ module _ {R : Type 0} (m : Ghosts R) (laws : CommutativeRing m.zero m.one m.sum 
       ∙ ap₂ m.sum (laws.product_comm z x) (laws.product_comm z y)
 
   -- one item more at the end
-  pub eval_push : (r : R) (ps : List R) (q : R) → eval m r (ps ++ (q ∷ [])) ≡ m.product (m.sum (eval m r ps) q) r
+  eval_push : (r : R) (ps : List R) (q : R) → eval m r (ps ++ (q ∷ [])) ≡ m.product (m.sum (eval m r ps) q) r
   eval_push r [] q =
       sym
       (ap (λ x. m.product x r) (zero_sum q)
@@ -35,42 +34,35 @@ module _ {R : Type 0} (m : Ghosts R) (laws : CommutativeRing m.zero m.one m.sum 
       ∙ ap (λ n. m.product p (m.product r (power m r n))) (sym longer))
       (sym (eval_push r ps q)))
 
-  -- one item more of a list that is walked through
-  pub eval_next : (r : R) (xs : List R) (i : ℕ) (x : R) → i < length xs → x ≡ get_or xs i x
-      → m.product (m.sum (eval m r (take i xs)) x) r ≡ eval m r (take (i + 1) xs)
-  eval_next r xs i x within read =
-      let pushed : take (i + 1) xs ≡ take i xs ++ (x ∷ []) = take_more xs i x within ∙ ap (λ y. take i xs ++ (y ∷ [])) (sym read) in
-      sym (eval_push r (take i xs) x) ∙ ap (eval m r) (sym pushed)
-
-  pub absorbed_append : (r v : R) (ps qs : List R) → absorbed m r v (ps ++ qs) ≡ absorbed m r (absorbed m r v ps) qs
-  absorbed_append r v [] qs = refl
-  absorbed_append r v (p ∷ ps) qs = absorbed_append r (m.product (m.sum v p) r) ps qs
+  pub horner_append : (r v : R) (ps qs : List R) → horner m r v (ps ++ qs) ≡ horner m r (horner m r v ps) qs
+  horner_append r v [] qs = refl
+  horner_append r v (p ∷ ps) qs = horner_append r (m.product (m.sum v p) r) ps qs
 
   -- what went in before and what goes in now make one evaluation
-  pub absorbed_eval : (r : R) (ps qs : List R) → absorbed m r (eval m r ps) qs ≡ eval m r (ps ++ qs)
-  absorbed_eval r ps [] = ap (eval m r) (sym (append-nil ps))
-  absorbed_eval r ps (q ∷ qs) =
-      ap (λ v. absorbed m r v qs) (sym (eval_push r ps q))
-      ∙ absorbed_eval r (ps ++ (q ∷ [])) qs
+  pub horner_eval : (r : R) (ps qs : List R) → horner m r (eval m r ps) qs ≡ eval m r (ps ++ qs)
+  horner_eval r ps [] = ap (eval m r) (sym (append-nil ps))
+  horner_eval r ps (q ∷ qs) =
+      ap (λ v. horner m r v qs) (sym (eval_push r ps q))
+      ∙ horner_eval r (ps ++ (q ∷ [])) qs
       ∙ ap (eval m r) (append_assoc ps (q ∷ []) qs)
 
   -- a fold takes the items in
-  pub fold_absorbed : (r v : R) (ps : List R) → fold (λ w p. m.product (m.sum w p) r) v ps ≡ absorbed m r v ps
-  fold_absorbed r v [] = refl
-  fold_absorbed r v (p ∷ ps) = fold_absorbed r (m.product (m.sum v p) r) ps
+  pub fold_horner : (r v : R) (ps : List R) → fold (λ w p. m.product (m.sum w p) r) v ps ≡ horner m r v ps
+  fold_horner r v [] = refl
+  fold_horner r v (p ∷ ps) = fold_horner r (m.product (m.sum v p) r) ps
 
   -- what items taken in one by one from a value on come to, by powers
-  pub absorbed_from : (r v : R) (ps : List R) → absorbed m r v ps ≡ eval_from m r v ps
-  absorbed_from r v [] = sym (laws.sum_zero (m.product v m.one) ∙ laws.product_one v)
-  absorbed_from r v (p ∷ ps) =
+  pub horner_from : (r v : R) (ps : List R) → horner m r v ps ≡ eval_from m r v ps
+  horner_from r v [] = sym (laws.sum_zero (m.product v m.one) ∙ laws.product_one v)
+  horner_from r v (p ∷ ps) =
       let w : R = power m r (length ps) in
       let moved : (x : R) → m.product (m.product x r) w ≡ m.product x (m.product r w) = λ x. laws.product_assoc x r w in
-      absorbed_from r (m.product (m.sum v p) r) ps
+      horner_from r (m.product (m.sum v p) r) ps
       ∙ ap (λ x. m.sum x (eval m r ps)) (moved (m.sum v p) ∙ sum_product v p (m.product r w))
       ∙ laws.sum_assoc (m.product v (m.product r w)) (m.product p (m.product r w)) (eval m r ps)
 
   pub fold_from : (r v : R) (ps : List R) → fold (λ w p. m.product (m.sum w p) r) v ps ≡ eval_from m r v ps
-  fold_from r v ps = fold_absorbed r v ps ∙ absorbed_from r v ps
+  fold_from r v ps = fold_horner r v ps ∙ horner_from r v ps
 
   pub product_zero : (x : R) → m.product x m.zero ≡ m.zero
   product_zero x =

@@ -1,43 +1,49 @@
--- Polynomials in x over the bits 0 and 1, written as numbers and taken modulo a polynomial of degree `width`.
--- `rest` is that polynomial without its highest term.
+-- Polynomials in x with coefficients 0 and 1, written as numbers, and their product modulo a polynomial of degree `width`.
+-- NIST SP 800-38D, section 6.3, multiplies two blocks so.
 use Rattle.std.specs.Prelude.{ℕ, zero, suc, ◌-◌, ◌*◌, ◌/◌, ◌%◌, ◌^◌, bit_xor}
 
--- a bit times a number
-abbrev pub part : ℕ → ℕ → ℕ
-part zero v = zero
-part (suc bit) v = v
+-- a bit times a polynomial: the polynomial where the bit is one, else zero
+abbrev pub times_bit : ℕ → ℕ → ℕ
+times_bit zero v = zero
+times_bit (suc bit) v = v
 
--- A kind of such polynomials: its width, the number of the polynomial 1, x times a polynomial, and the coefficient of x^k in one.
-pub record Kind : Type 0 where
+-- How such polynomials are written, and what they are taken modulo.
+pub record FieldShape : Type 0 where
+  -- how many coefficients a polynomial has, those of x^0 to x^(width - 1)
   pub width : ℕ
+  -- the polynomial 1
   pub unit : ℕ
+  -- x times a polynomial, modulo the polynomial of degree `width`
   pub step : ℕ → ℕ
+  -- in a polynomial, the coefficient of x^k
   pub digit : ℕ → ℕ → ℕ
 
--- the coefficient of x^0 stands in the highest of the bits
-abbrev pub high_first : ℕ → ℕ → Kind
+-- The coefficient of x^0 is the highest bit, so that x times a polynomial is a shift to the right. The bit that falls out stands
+-- for x^width, which is `rest`, the modulus without its highest term, and that is xored in.
+abbrev pub high_first : ℕ → ℕ → FieldShape
 high_first width rest = record {
   width = width;
   unit = 2 ^ (width - 1);
-  step = λ v. bit_xor (v / 2) (part (v % 2) rest);
+  step = λ v. bit_xor (v / 2) (times_bit (v % 2) rest);
   digit = λ a k. a / 2 ^ (width - suc k) % 2;
 }
 
--- the coefficient of x^0 stands in the lowest of the bits
-abbrev pub low_first : ℕ → ℕ → Kind
+-- The coefficient of x^0 is the lowest bit, so that x times a polynomial is a shift to the left. The bit that falls out stands
+-- for x^width, which is `rest`, the modulus without its highest term, and that is xored in.
+abbrev pub low_first : ℕ → ℕ → FieldShape
 low_first width rest = record {
   width = width;
   unit = 1;
-  step = λ v. bit_xor (v * 2 % 2 ^ width) (part (v / 2 ^ (width - 1) % 2) rest);
+  step = λ v. bit_xor (v * 2 % 2 ^ width) (times_bit (v / 2 ^ (width - 1) % 2) rest);
   digit = λ a k. a / 2 ^ k % 2;
 }
 
--- x^k times v
-unfoldable pub shifted : (ℕ → ℕ) → ℕ → ℕ → ℕ
-shifted step zero v = v
-shifted step (suc k) v = step (shifted step k v)
+-- x^k times a polynomial: x times it, k times over
+unfoldable pub times_x_power : (ℕ → ℕ) → ℕ → ℕ → ℕ
+times_x_power step zero v = v
+times_x_power step (suc k) v = step (times_x_power step k v)
 
--- the sum, over k below n, of (coefficient of x^k in a) times x^k times b
-unfoldable pub multiplied : Kind → ℕ → ℕ → ℕ → ℕ
-multiplied kind zero a b = zero
-multiplied kind (suc n) a b = bit_xor (multiplied kind n a b) (part (kind.digit a n) (shifted kind.step n b))
+-- The sum, over k below n, of the coefficient of x^k in a, times x^k, times b. At n = width it is the product of a and b.
+unfoldable pub bit_product : FieldShape → ℕ → ℕ → ℕ → ℕ
+bit_product shape zero a b = zero
+bit_product shape (suc n) a b = bit_xor (bit_product shape n a b) (times_bit (shape.digit a n) (times_x_power shape.step n b))

@@ -2,12 +2,14 @@
 use Rattle.std.specs.Prelude.{ℕ, List}
 use Rattle.field.specs.Digits.{numeral, digits}
 use Rattle.field.specs.Kinds.{block, word}
-use Rattle.field.specs.declared.kinds.Block.{Block}
-use Rattle.field.specs.declared.kinds.Word.{Word}
+use Rattle.field.specs.declared.block.Block.{Block}
+use Rattle.field.specs.declared.word.Word.{Word}
 
+-- the block that 16 bytes write
 abbrev pub block_of : List ℕ → Block
 block_of bytes = block (numeral 256 bytes)
 
+-- the 16 bytes of a block
 abbrev pub bytes_of : Block → List ℕ
 bytes_of b = digits 256 16 b.bits
 

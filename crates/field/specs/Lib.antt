@@ -6,7 +6,7 @@ pub mod Digits
 pub mod Bytes
 pub mod Texts
 pub mod Instances
-pub mod Held
+pub mod Residues
 pub mod Products
 pub mod Orders
 pub mod BinaryRing

@@ -1,4 +1,4 @@
--- What a commutative ring is.
+-- The laws of a commutative ring with one.
 use Rattle.std.specs.Prelude.{◌≡◌}
 
 pub record CommutativeRing {R : Type 0} (zero one : R) (sum product : R → R → R) : Type 0 where

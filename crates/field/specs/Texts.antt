@@ -2,9 +2,9 @@
 use Rattle.std.specs.Prelude.{ℕ, false, List, map, decimal}
 use Rattle.std.specs.Fmt.{digit_glyph}
 use Rattle.field.specs.Digits.{digits}
-use Rattle.field.specs.declared.kinds.Block.{Block}
-use Rattle.field.specs.declared.kinds.Nibble.{Nibble}
-use Rattle.field.specs.declared.kinds.Word.{Word}
+use Rattle.field.specs.declared.block.Block.{Block}
+use Rattle.field.specs.declared.nibble.Nibble.{Nibble}
+use Rattle.field.specs.declared.word.Word.{Word}
 
 -- the n lowest digits of a number, the highest first, from '0' to '9' and on from 'a'
 abbrev pub digits_text : ℕ → ℕ → ℕ → List ℕ
@@ -18,5 +18,6 @@ block_text b = digits_text 16 32 b.bits
 abbrev pub nibble_text : Nibble → List ℕ
 nibble_text n = digits_text 2 4 n.bits
 
+-- the number in decimal
 abbrev pub word_text : Word → List ℕ
 word_text w = decimal w.value

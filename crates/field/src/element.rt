@@ -1,7 +1,8 @@
-// What the evaluator asks of a kind of element.
+// What the evaluation asks of a kind of element: the sums and products of a commutative ring.
 ghost use Rattle.std.specs.Prelude.{◌≡◌};
 ghost use Rattle.field.specs.Ring.{CommutativeRing};
 
+/// An element of a commutative ring.
 pub trait Element: Sized {
     ghost zero: { Self };
 
@@ -11,15 +12,19 @@ pub trait Element: Sized {
 
     ghost product: { Self → Self → Self };
 
+    /// Zero, which a sum leaves as it is.
     fn zero() -> Self
         ensures { result ≡ zero };
 
+    /// One, which a product leaves as it is.
     fn one() -> Self
         ensures { result ≡ one };
 
+    /// The sum of the two.
     fn plus(self, other: Self) -> Self
         ensures { result ≡ sum self other };
 
+    /// The product of the two.
     fn times(self, other: Self) -> Self
         ensures { result ≡ product self other };
 
@@ -30,6 +35,6 @@ pub trait Element: Sized {
         self.plus(item).times(key)
     }
 
-    // Each kind proves these laws.
+    // The laws of the ring, which each kind proves: by them Horner's rule comes to the sum over the powers of the key.
     ghost ring: { CommutativeRing zero one sum product };
 }

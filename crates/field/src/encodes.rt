@@ -1,4 +1,4 @@
-// What the evaluator takes a row of.
+// What a row holds: the elements themselves, or the bytes that write them.
 ghost use Rattle.std.specs.Prelude.{◌≡◌, map};
 ghost use Rattle.field.specs.Evaluation.{eval_from};
 
@@ -12,8 +12,10 @@ pub trait Encodes<E: Element + Copy>: Sized {
     fn element(&self) -> E
         ensures { result ≡ element self.now };
 
-    /// start·r^n + P1·r^n + P2·r^(n-1) + .. + Pn·r for the key r and n items. Items go in one by one, by Horner's rule; a kind whose
-    /// items are so small that several steps fit in one sum takes several together.
+    /// start·r^n + P1·r^n + P2·r^(n-1) + .. + Pn·r for the key r and n items.
+    ///
+    /// The items go in one by one, by Horner's rule. A kind whose items are so small that several steps fit in one sum takes
+    /// several together.
     fn absorb_row(key: E, start: E, items: &[Self]) -> E
         ensures { result ≡ eval_from E.Element key start (map element items.now) }
     {

@@ -1,17 +1,18 @@
-// Elements that can be added and multiplied, and the value of a row of them at a key.
+// Elements that can be added and multiplied: blocks, nibbles and words. And the evaluation of a row of them at a key.
 #![tactic(auto)]
 
 mod binary;
-mod blocks;
+mod block;
 mod element;
 mod encodes;
-mod evaluator;
-mod kinds;
-mod nibbles;
+mod evaluation;
+mod nibble;
 mod powers;
-mod words;
+mod word;
 
+pub use block::Block;
 pub use element::Element;
 pub use encodes::Encodes;
-pub use evaluator::evaluate;
-pub use kinds::{Block, Nibble, Word};
+pub use evaluation::evaluate;
+pub use nibble::Nibble;
+pub use word::Word;

@@ -1,8 +1,8 @@
 // Numbers of two bytes taken in six at a time, with one remainder for six steps of Horner's rule.
 //
 // Six steps from a value v on, at a key r, come to v·r^6 + a·r^6 + b·r^5 + c·r^4 + d·r^3 + e·r^2 + f·r. A value and a power of the
-// key are below 2^31, and a number of two bytes is below 2^16: v·r^6 is below 2^62 and each other product below 2^47, so that the sum
-// stays below 2^63. It fits in 64 bits as it stands, and one remainder at its end serves all six.
+// key are below 2^31, and a number of two bytes is below 2^16: v·r^6 is below 2^62 and each other product below 2^47, so that the
+// sum stays below 2^63. It fits in 64 bits as it stands, and one remainder at its end serves all six.
 ghost use Rattle.std.specs.Prelude.{◌≡◌, ◌*◌, ◌^◌, ◌<◌, map};
 ghost use Rattle.field.specs.Bytes.{word_of};
 ghost use Rattle.field.specs.Digits.{numeral};
@@ -10,13 +10,12 @@ ghost use Rattle.field.specs.Evaluation.{eval_from};
 ghost use Rattle.field.specs.Kinds.{word_ring};
 
 use crate::element::Element;
-use crate::kinds::Word;
-use crate::words::{number, remainder};
+use crate::word::{Word, number, remainder};
 
 // How many numbers a group has.
 pub(crate) const GROUP: usize = 6;
 
-// A key and its powers, one for each number of a group.
+// A key and its powers up to the sixth: one for each number of a group.
 #[derive(Drop)]
 pub(crate) struct Powers {
     first: Word,
@@ -41,14 +40,15 @@ fn weigh(bytes: &[u8; 2], power: Word) -> u64
 }
 
 impl Powers {
+    // The key with its powers, each the key times the one before.
     pub(crate) fn new(key: Word) -> Powers
         ensures { result.first ≡ key }
     {
-        let second = key.times(key);
-        let third = key.times(second);
-        let fourth = key.times(third);
-        let fifth = key.times(fourth);
-        let sixth = key.times(fifth);
+        let second = key * key;
+        let third = key * second;
+        let fourth = key * third;
+        let fifth = key * fourth;
+        let sixth = key * fifth;
         Powers {
             first: key,
             second,

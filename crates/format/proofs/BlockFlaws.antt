@@ -1,14 +1,14 @@
 -- The fault of a block, by its flaws.
-use Rattle.std.proofs.Common.{◌≡◌, ℕ, ◌<◌, Bool, true, false, cond, eqb, List, take, Some, None, Option, sym, refl, ap, ◌∙◌, subst, ◌⊎◌, inl, inr, arith}
-use Rattle.std.specs.Prelude.{All}
+use Rattle.std.proofs.Common.{◌≡◌, ℕ, ◌<◌, Bool, true, false, eqb, List, take, Some, None, Option, refl, ◌⊎◌, inl, inr, arith}
+use Rattle.std.specs.Prelude.{All, if◌then◌else◌}
 use Rattle.std.specs.Bool.{Decides}
 use Rattle.std.proofs.lemmas.Bool.{cases_Bool, false_from_ne_true}
 use Rattle.std.proofs.lemmas.Bool.Decides.{nat_tests, Decides-by_and, Decides-eqb, not_from_Decides}
 use Rattle.refusal.specs.declared.Refusal.{Refusal}
 use Rattle.refusal.specs.declared.Refusal.TheVariants.{WrongCheck, WrongNumber, WrongForm, WrongOrder}
 use Rattle.format.specs.Layout.{check_of}
-use Rattle.format.specs.Faults.{Previous, number_in, kind_in, fill_in, check_in, is_all_zero, is_form_good, is_order_good, fault_of, block_at, previous_at}
-use Rattle.format.specs.Flaws.{IsFormed, MayFollow, Flaw, check, number, form, order, turn_of, IsFreeOf, IsBlockFlaw, HasNoFlaw, IsBlockFault}
+use Rattle.format.specs.Faults.{Predecessor, number_in, kind_in, filling_in, stored_check, is_all_zero, is_form_good, is_order_good, fault_of, block_at, predecessor_at}
+use Rattle.format.specs.Flaws.{IsFormed, MayFollow, Flaw, check, number, form, order, turn_of, IsFreeOf, IsBlockFlaw, HasNoFlaw}
 use Rattle.format.proofs.BlockFields.{Form, form_parts}
 
 -- ---- the tests
@@ -25,13 +25,14 @@ form_decides b = (
         most_kind = f.high;
         reserve = f.reserve;
         end_used = λ end. grind (arith, nat_tests, f.used);
-        part_used = λ part. (grind (arith, nat_tests, f.used), grind (arith, nat_tests, f.used));
-        fill = (zeros_decide (fill_in b)).0 f.zeros;
+        part_some = λ part. grind (arith, nat_tests, f.used);
+        part_most = λ part. grind (arith, nat_tests, f.used);
+        fill = (zeros_decide (filling_in b)).0 f.zeros;
       },
-  λ f. grind (arith, nat_tests, f.end_used, f.part_used, (zeros_decide (fill_in b)).1 f.fill),
+  λ f. grind (arith, nat_tests, f.end_used, f.part_some, f.part_most, (zeros_decide (filling_in b)).1 f.fill),
 )
 
-pub order_decides : (p : Previous) (kind : ℕ) → Decides (is_order_good p kind) (MayFollow p kind)
+pub order_decides : (p : Predecessor) (kind : ℕ) → Decides (is_order_good p kind) (MayFollow p kind)
 order_decides p kind = (
   λ good. record {
     before_end = λ end. grind (arith, nat_tests, good);
@@ -42,16 +43,16 @@ order_decides p kind = (
 )
 
 abbrev is_free : List ℕ → ℕ → Flaw → Bool
-is_free file k check = eqb (check_in (block_at file k)) (check_of (take 508 (block_at file k)))
+is_free file k check = eqb (stored_check (block_at file k)) (check_of (take 508 (block_at file k)))
 is_free file k number = eqb (number_in (block_at file k)) k
 is_free file k form = is_form_good (block_at file k)
-is_free file k order = is_order_good (previous_at file k) (kind_in (block_at file k))
+is_free file k order = is_order_good (predecessor_at file k) (kind_in (block_at file k))
 
 free_decides : (file : List ℕ) (k : ℕ) (flaw : Flaw) → Decides (is_free file k flaw) (IsFreeOf file k flaw)
-free_decides file k check = Decides-eqb (check_in (block_at file k)) (check_of (take 508 (block_at file k)))
+free_decides file k check = Decides-eqb (stored_check (block_at file k)) (check_of (take 508 (block_at file k)))
 free_decides file k number = Decides-eqb (number_in (block_at file k)) k
 free_decides file k form = form_decides (block_at file k)
-free_decides file k order = order_decides (previous_at file k) (kind_in (block_at file k))
+free_decides file k order = order_decides (predecessor_at file k) (kind_in (block_at file k))
 
 -- ---- the first of four tests that fails
 
@@ -63,7 +64,8 @@ refusal_of form k = WrongForm k
 refusal_of order k = WrongOrder k
 
 -- what holds of each flaw whose turn comes before the n-th
-turns_below : (n : ℕ) (P : Flaw → Type 0) → (0 < n → P check) → (1 < n → P number) → (2 < n → P form) → (3 < n → P order) → (flaw : Flaw) → turn_of flaw < n → P flaw
+turns_below : (n : ℕ) (P : Flaw → Type 0) → (0 < n → P check) → (1 < n → P number) → (2 < n → P form)
+    → (3 < n → P order) → (flaw : Flaw) → turn_of flaw < n → P flaw
 turns_below n P a b c d check less = a less
 turns_below n P a b c d number less = b less
 turns_below n P a b c d form less = c less
@@ -89,11 +91,30 @@ module _ (test : Flaw → Bool) where
       elim (cases_Bool (test check)) [
         | inr a ↦ inr (check, record { failed = a; earlier = λ other less. absurd (omega arith) })
         | inl a ↦ elim (cases_Bool (test number)) [
-          | inr b ↦ inr (number, record { failed = b; earlier = turns_below 1 Held (λ l. a) (λ l. absurd (omega arith)) (λ l. absurd (omega arith)) (λ l. absurd (omega arith)) })
+          | inr b ↦ inr (
+            number,
+            record {
+              failed = b;
+              earlier =
+                  turns_below 1 Held (λ l. a) (λ l. absurd (omega arith)) (λ l. absurd (omega arith)) (λ l. absurd (omega arith));
+            },
+          )
           | inl b ↦ elim (cases_Bool (test form)) [
-            | inr c ↦ inr (form, record { failed = c; earlier = turns_below 2 Held (λ l. a) (λ l. b) (λ l. absurd (omega arith)) (λ l. absurd (omega arith)) })
+            | inr c ↦ inr (
+              form,
+              record {
+                failed = c;
+                earlier = turns_below 2 Held (λ l. a) (λ l. b) (λ l. absurd (omega arith)) (λ l. absurd (omega arith));
+              },
+            )
             | inl c ↦ elim (cases_Bool (test order)) [
-              | inr d ↦ inr (order, record { failed = d; earlier = turns_below 3 Held (λ l. a) (λ l. b) (λ l. c) (λ l. absurd (omega arith)) })
+              | inr d ↦ inr (
+                order,
+                record {
+                  failed = d;
+                  earlier = turns_below 3 Held (λ l. a) (λ l. b) (λ l. c) (λ l. absurd (omega arith));
+                },
+              )
               | inl d ↦ inl (every_flaw Held a b c d)
             ]
           ]
@@ -103,7 +124,15 @@ module _ (test : Flaw → Bool) where
   -- the answer of four tests in turn
   abbrev fault_by : ℕ → Option Refusal
   fault_by k =
-      cond (test check) (cond (test number) (cond (test form) (cond (test order) None (Some (WrongOrder k))) (Some (WrongForm k))) (Some (WrongNumber k))) (Some (WrongCheck k))
+      if test check
+      then if test number
+      then if test form
+      then if test order
+      then None
+      else Some (WrongOrder k)
+      else Some (WrongForm k)
+      else Some (WrongNumber k)
+      else Some (WrongCheck k)
 
   none_failed : (k : ℕ) → ((flaw : Flaw) → Held flaw) → fault_by k ≡ None
   none_failed k all = rw (all check, all number, all form, all order)
@@ -112,13 +141,14 @@ module _ (test : Flaw → Bool) where
   first_failed k check f = rw (f.failed)
   first_failed k number f = rw (f.earlier check (omega arith), f.failed)
   first_failed k form f = rw (f.earlier check (omega arith), f.earlier number (omega arith), f.failed)
-  first_failed k order f = rw (f.earlier check (omega arith), f.earlier number (omega arith), f.earlier form (omega arith), f.failed)
+  first_failed k order f =
+      rw (f.earlier check (omega arith), f.earlier number (omega arith), f.earlier form (omega arith), f.failed)
 
 -- ---- the fault of block k
 
 module _ (file : List ℕ) (k : ℕ) where
   abbrev pub fault_at : Option Refusal
-  fault_at = fault_of k (previous_at file k) (block_at file k)
+  fault_at = fault_of k (predecessor_at file k) (block_at file k)
 
   -- a block is sound, or one of its flaws is met first
   pub sound_or_flawed : HasNoFlaw file k ⊎ ((flaw : Flaw) × IsBlockFlaw file k flaw)
@@ -143,34 +173,3 @@ module _ (file : List ℕ) (k : ℕ) where
         failed = false_from_ne_true (is_free file k flaw) (λ e. f.there ((free_decides file k flaw).0 e));
         earlier = λ other less. (free_decides file k other).1 (f.earlier other less);
       })
-
-  named_flaw : (flaw : Flaw) → IsBlockFlaw file k flaw → IsBlockFault file k (refusal_of flaw k)
-  named_flaw check f = (refl, f)
-  named_flaw number f = (refl, f)
-  named_flaw form f = (refl, f)
-  named_flaw order f = (refl, f)
-
-  -- what the fault of a block tells, and what tells its fault
-  pub block_fault : (e : Refusal) → fault_at ≡ Some e → IsBlockFault file k e
-  block_fault e same =
-      elim sound_or_flawed [
-        | inl sound ↦ let none : fault_at ≡ None = block_passes sound in absurd (cc)
-        | inr f ↦
-            let some : fault_at ≡ Some (refusal_of f.0 k) = first_fault f.0 f.1 in
-            let why : refusal_of f.0 k ≡ e = cc in
-            subst (IsBlockFault file k) why (named_flaw f.0 f.1)
-      ]
-
-  pub block_sound : fault_at ≡ None → HasNoFlaw file k
-  block_sound none =
-      elim sound_or_flawed [
-        | inl sound ↦ sound
-        | inr f ↦ let some : fault_at ≡ Some (refusal_of f.0 k) = first_fault f.0 f.1 in absurd (cc)
-      ]
-
-  pub block_refuses : (e : Refusal) → IsBlockFault file k e → fault_at ≡ Some e
-  block_refuses (WrongCheck named) h = first_fault check h.1 ∙ ap (λ (j : ℕ). Some (WrongCheck j)) (sym h.0)
-  block_refuses (WrongNumber named) h = first_fault number h.1 ∙ ap (λ (j : ℕ). Some (WrongNumber j)) (sym h.0)
-  block_refuses (WrongForm named) h = first_fault form h.1 ∙ ap (λ (j : ℕ). Some (WrongForm j)) (sym h.0)
-  block_refuses (WrongOrder named) h = first_fault order h.1 ∙ ap (λ (j : ℕ). Some (WrongOrder j)) (sym h.0)
-  block_refuses other h = absurd h

@@ -1,5 +1,4 @@
 pub mod Zeros
-pub mod Pairs
 pub mod BlockFields
 pub mod Pieces
 pub mod Sequences

@@ -2,15 +2,17 @@
 use Rattle.std.proofs.Common.{◌≡◌, Bool, true, false, cond, Ok, Err, Result, refl}
 use Rattle.std.specs.Prelude.{IsOk, IfOk, IfErr}
 use Rattle.refusal.specs.declared.Refusal.{Refusal}
-use Rattle.format.specs.Verdict.{after}
+use Rattle.format.specs.Verdict.{and_then}
 
 -- a step before another ended well
-pub came : {T U : Type 0} (r : Result T Refusal) (f : T → Result U Refusal) (x : U) → after r f ≡ Ok x → (z : T) × (r ≡ Ok z) × (f z ≡ Ok x)
+pub came : {T U : Type 0} (r : Result T Refusal) (f : T → Result U Refusal) (x : U) → and_then r f ≡ Ok x
+    → (z : T) × (r ≡ Ok z) × (f z ≡ Ok x)
 came (Ok z) f x e = (z, refl, e)
 came (Err y) f x e = absurd (cc)
 
 -- a test before an answer was passed
-pub test_passed : {T : Type 0} (t : Bool) (r : Result T Refusal) (why : Refusal) (x : T) → cond t r (Err why) ≡ Ok x → (t ≡ true) × (r ≡ Ok x)
+pub test_passed : {T : Type 0} (t : Bool) (r : Result T Refusal) (why : Refusal) (x : T) → cond t r (Err why) ≡ Ok x
+    → (t ≡ true) × (r ≡ Ok x)
 test_passed true r why x e = (refl, e)
 test_passed false r why x e = absurd (cc)
 

@@ -1,15 +1,23 @@
 -- The kinds of blocks, and the numbers that stand for them in a file.
 use Rattle.std.specs.Prelude.{◌≡◌, ℕ, false, ◌&&◌, Ok, Err, Result, nat_le}
-use Rattle.format.specs.declared.kind.Kind.{Kind}
-use Rattle.format.specs.declared.kind.Kind.TheVariants.{Header, Body, End}
-use Rattle.format.specs.declared.kind.NoKind.{NoKind}
+use Rattle.format.specs.Layout.{header_kind, body_kind, end_kind}
+use Rattle.format.specs.declared.block_kind.BlockKind.{BlockKind}
+use Rattle.format.specs.declared.block_kind.BlockKind.TheVariants.{Header, Body, End}
+use Rattle.format.specs.declared.block_kind.NoKind.{NoKind}
 
-abbrev pub number_of : Kind → ℕ
-number_of Header = 1
-number_of Body = 2
-number_of End = 3
+abbrev pub kind_number : BlockKind → ℕ
+kind_number Header = header_kind
+kind_number Body = body_kind
+kind_number End = end_kind
+
+-- A number that is no kind's.
+pub record IsNoKind (n : ℕ) (none : NoKind) : Type 0 where
+  -- it is handed back
+  pub same : none.0 ≡ n
+  -- and lies outside 1 to 3
+  pub outside : (nat_le header_kind n && nat_le n end_kind) ≡ false
 
 -- the kind with this number, or the number of none
-abbrev pub Names : ℕ → Result Kind NoKind → Type 0
-Names n (Ok kind) = number_of kind ≡ n
-Names n (Err none) = (none.0 ≡ n) × ((nat_le 1 n && nat_le n 3) ≡ false)
+abbrev pub NamesKind : ℕ → Result BlockKind NoKind → Type 0
+NamesKind n (Ok kind) = kind_number kind ≡ n
+NamesKind n (Err none) = IsNoKind n none

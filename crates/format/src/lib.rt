@@ -1,13 +1,13 @@
 // The format of sealed files.
 #![tactic(auto)]
 
+mod block_kind;
 mod check;
-mod kind;
 mod layout;
 mod lengths;
 
+pub use block_kind::{BlockKind, NoKind};
 pub use check::block_check;
-pub use kind::{Kind, NoKind};
 pub use layout::{
     BLOCK_BYTES, CHECK_AT, DATA_AT, DATA_BYTES, LARGEST_FILE, MOST_BLOCKS, blocks_for,
 };

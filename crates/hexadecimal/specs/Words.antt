@@ -1,33 +1,41 @@
--- What each call answers to a text: the length is looked at first, then the digits from the left, then the room.
-use Rattle.std.specs.Prelude.{◌≡◌, ℕ, ◌/◌, ◌%◌, cond, List, ◌++◌, length, drop, Some, None, Ok, Err, Option, Result, ◌==◌, nat_le}
-use Rattle.field.specs.Kinds.{block}
-use Rattle.field.specs.declared.kinds.Block.{Block}
+-- What each call answers to a text, in the words of the crate `hex`: the length is looked at first, then the digits from the left,
+-- and then the room.
+use Rattle.std.specs.Prelude.{◌≡◌, ℕ, if◌then◌else◌, List, length, take, drop, Ok, Err, Option, Result, nat_le, not, position}
+use Rattle.std.specs.Result.{result_flatten, result_map_both}
+use Rattle.field.specs.Bytes.{block_of}
+use Rattle.field.specs.declared.block.Block.{Block}
+use Rattle.hex.specs.Hex.{decode_of, decode_sized, is_hex_digit}
+use Rattle.hex.specs.declared.error.FromHexError.{FromHexError}
+use Rattle.hex.specs.declared.error.FromHexError.TheVariants.{InvalidHexCharacter}
 use Rattle.hexadecimal.specs.declared.HexFault.{HexFault}
 use Rattle.hexadecimal.specs.declared.HexFault.TheVariants.{WrongLength, NotADigit, RowTooShort}
-use Rattle.hexadecimal.specs.Digits.{first_bad, number_in, bytes_from}
 
--- an answer, unless some place holds no digit
-abbrev pub unless_bad : {T : Type 0} → Option ℕ → Result T HexFault → Result T HexFault
-unless_bad None answer = answer
-unless_bad (Some i) answer = Err (NotADigit i)
+-- the first place, from 0, that holds no digit
+abbrev pub bad_place : List ℕ → Option ℕ
+bad_place text = position (λ c. not (is_hex_digit c)) text
 
--- 32 digits
+-- the fault that an error of `hex` is in a text of so many digits: its bad digit, or else its length, since nothing is allocated
+abbrev pub fault_of : ℕ → FromHexError → HexFault
+fault_of digits (InvalidHexCharacter c at) = NotADigit at
+fault_of digits _ = WrongLength digits
+
+-- the block that 32 digits write
 abbrev pub block_in : List ℕ → Result Block HexFault
-block_in text =
-    cond (length text == 32)
-    (unless_bad (first_bad text) (Ok (block (number_in text))))
-    (Err (WrongLength (length text)))
+block_in text = result_map_both block_of (fault_of (length text)) (decode_sized text 16)
 
--- how many bytes an even count of digits writes, where a row holds as many
+-- how many bytes there are, where a row has room for them
+abbrev pub count_within : ℕ → List ℕ → Result ℕ HexFault
+count_within room bytes =
+    if nat_le (length bytes) room then Ok (length bytes)
+    else Err (RowTooShort (length bytes))
+
+-- how many bytes an even count of digits writes to a row
 abbrev pub bytes_count : List ℕ → ℕ → Result ℕ HexFault
 bytes_count text room =
-    cond (length text % 2 == 0)
-    (unless_bad (first_bad text)
-    (cond (nat_le (length text / 2) room) (Ok (length text / 2))
-    (Err (RowTooShort (length text / 2)))))
-    (Err (WrongLength (length text)))
+    result_flatten (result_map_both (count_within room) (fault_of (length text)) (decode_of text))
 
--- The bytes of a text stand at the front of a row, and the rest is as before; or there was a fault, and all is as before.
+-- After an answer the bytes of a text stand at the front of a row, whose rest is as before; after a fault all of it is as before.
 abbrev pub WritesBytes : List ℕ → List ℕ → List ℕ → Result ℕ HexFault → Type 0
-WritesBytes text before after (Ok count) = after ≡ bytes_from text ++ drop count before
+WritesBytes text before after (Ok count) =
+    (decode_of text ≡ Ok (take count after)) × (drop count after ≡ drop count before)
 WritesBytes text before after (Err fault) = after ≡ before

@@ -1,26 +1,26 @@
 -- The full blocks of bytes that are put together.
 use Rattle.std.proofs.Common.{◌≡◌, ℕ, zero, suc, ◌+◌, ◌-◌, ◌*◌, ◌/◌, ◌<◌, ◌≤◌, List, [], ◌∷◌, ◌++◌, length, take, drop, sym, refl, ap, ◌∙◌, ap₂, zero-add, arith, length-append, length-drop}
 use Rattle.std.proofs.lemmas.List.{take-append-le, drop-append-le, drop-drop, drop_all}
-use Rattle.field.specs.Bytes.{block_of}
-use Rattle.message.specs.Blocks.{blocks_taken, filled, cut, blocks}
+use Rattle.message.specs.Blocks.{block_from, blocks_taken, first_blocks, blocks}
 use Rattle.job.specs.Cuts.{full_blocks, left_over}
 
-cut_front : (n : ℕ) (xs ys : List ℕ) → 16 * n ≤ length xs → cut n (xs ++ ys) ≡ cut n xs
-cut_front zero xs ys within = refl
-cut_front (suc n) xs ys within =
+first_blocks_front : (n : ℕ) (xs ys : List ℕ) → 16 * n ≤ length xs → first_blocks n (xs ++ ys) ≡ first_blocks n xs
+first_blocks_front zero xs ys within = refl
+first_blocks_front (suc n) xs ys within =
     let some : 16 ≤ length xs = omega arith in
     let more : 16 * n ≤ length (drop 16 xs) = simp length-drop (omega arith) in
-    ap₂ (λ p r. block_of (filled p) ∷ r) (take-append-le 16 xs ys some)
-    (ap (cut n) (drop-append-le 16 xs ys some) ∙ cut_front n (drop 16 xs) ys more)
+    ap₂ (λ p r. block_from p ∷ r) (take-append-le 16 xs ys some)
+    (ap (first_blocks n) (drop-append-le 16 xs ys some) ∙ first_blocks_front n (drop 16 xs) ys more)
 
-cut_split : (n k : ℕ) (xs : List ℕ) → cut (n + k) xs ≡ cut n xs ++ cut k (drop (16 * n) xs)
-cut_split zero k xs = ap (λ j. cut j xs) (zero-add k)
-cut_split (suc n) k xs =
+first_blocks_split : (n k : ℕ) (xs : List ℕ) → first_blocks (n + k) xs ≡ first_blocks n xs ++ first_blocks k (drop (16 * n) xs)
+first_blocks_split zero k xs = ap (λ j. first_blocks j xs) (zero-add k)
+first_blocks_split (suc n) k xs =
     let e : suc n + k ≡ suc (n + k) = omega arith in
     let further : 16 + 16 * n ≡ 16 * suc n = omega arith in
     let d : drop (16 * n) (drop 16 xs) ≡ drop (16 * suc n) xs = drop-drop (16 * n) 16 xs ∙ ap (λ j. drop j xs) further in
-    ap (λ j. cut j xs) e
-    ∙ ap (λ r. block_of (filled (take 16 xs)) ∷ r) (cut_split n k (drop 16 xs) ∙ ap (λ r. cut n (drop 16 xs) ++ cut k r) d)
+    ap (λ j. first_blocks j xs) e
+    ∙ ap (λ r. block_from (take 16 xs) ∷ r)
+    (first_blocks_split n k (drop 16 xs) ∙ ap (λ r. first_blocks n (drop 16 xs) ++ first_blocks k r) d)
 
 module _ (xs ys : List ℕ) where
   whole_count : length (xs ++ ys) / 16 ≡ length xs / 16 + length (left_over xs ++ ys) / 16
@@ -33,9 +33,9 @@ module _ (xs ys : List ℕ) where
   pub full_append : full_blocks (xs ++ ys) ≡ full_blocks xs ++ full_blocks (left_over xs ++ ys)
   unfolding full_blocks left_over
   full_append =
-      ap (λ n. cut n (xs ++ ys)) whole_count
-      ∙ cut_split (length xs / 16) (length (left_over xs ++ ys) / 16) (xs ++ ys)
-      ∙ ap₂ (λ ps r. ps ++ cut (length (left_over xs ++ ys) / 16) r) (cut_front (length xs / 16) xs ys within)
+      ap (λ n. first_blocks n (xs ++ ys)) whole_count
+      ∙ first_blocks_split (length xs / 16) (length (left_over xs ++ ys) / 16) (xs ++ ys)
+      ∙ ap₂ (λ ps r. ps ++ first_blocks (length (left_over xs ++ ys) / 16) r) (first_blocks_front (length xs / 16) xs ys within)
       (drop-append-le (16 * (length xs / 16)) xs ys within)
 
   pub left_append : left_over (xs ++ ys) ≡ left_over (left_over xs ++ ys)
@@ -49,24 +49,24 @@ module _ (xs ys : List ℕ) where
 
 pub full_short : (xs : List ℕ) → length xs < 16 → full_blocks xs ≡ []
 unfolding full_blocks
-full_short xs short = let e : length xs / 16 ≡ 0 = omega arith in ap (λ n. cut n xs) e
+full_short xs short = let e : length xs / 16 ≡ 0 = omega arith in ap (λ n. first_blocks n xs) e
 
 pub left_short : (xs : List ℕ) → length xs < 16 → left_over xs ≡ xs
 unfolding left_over
 left_short xs short = let e : 16 * (length xs / 16) ≡ 0 = omega arith in ap (λ n. drop n xs) e
 
-pub full_one : (xs : List ℕ) → length xs ≡ 16 → full_blocks xs ≡ block_of (filled (take 16 xs)) ∷ []
+pub full_one : (xs : List ℕ) → length xs ≡ 16 → full_blocks xs ≡ block_from (take 16 xs) ∷ []
 unfolding full_blocks
-full_one xs sixteen = let e : length xs / 16 ≡ 1 = omega arith in ap (λ n. cut n xs) e
+full_one xs sixteen = let e : length xs / 16 ≡ 1 = omega arith in ap (λ n. first_blocks n xs) e
 
 pub left_none : (xs : List ℕ) → length xs ≡ 16 → left_over xs ≡ []
 unfolding left_over
 left_none xs sixteen = drop_all _ xs (omega arith)
 
 -- the bytes that wait at the end of a part
-pub last_block : (xs : List ℕ) → 0 < length xs → length xs ≤ 16 → blocks xs ≡ block_of (filled (take 16 xs)) ∷ []
+pub last_block : (xs : List ℕ) → 0 < length xs → length xs ≤ 16 → blocks xs ≡ block_from (take 16 xs) ∷ []
 unfolding blocks
-last_block xs some few = let one : blocks_taken (length xs) ≡ 1 = omega arith in ap (λ n. cut n xs) one
+last_block xs some few = let one : blocks_taken (length xs) ≡ 1 = omega arith in ap (λ n. first_blocks n xs) one
 
 -- a part's blocks are its full ones, and one more where bytes are left
 pub blocks_full : (xs : List ℕ) → blocks xs ≡ full_blocks xs ++ blocks (left_over xs)
@@ -74,4 +74,4 @@ unfolding blocks full_blocks left_over
 blocks_full xs =
     let n : length (left_over xs) ≡ length xs - 16 * (length xs / 16) = length-drop (16 * (length xs / 16)) xs in
     let e : blocks_taken (length xs) ≡ length xs / 16 + blocks_taken (length (left_over xs)) = omega arith in
-    ap (λ k. cut k xs) e ∙ cut_split (length xs / 16) (blocks_taken (length (left_over xs))) xs
+    ap (λ k. first_blocks k xs) e ∙ first_blocks_split (length xs / 16) (blocks_taken (length (left_over xs))) xs

@@ -1,6 +1,7 @@
 pub mod Cutting
 pub mod Feeding
 pub mod Same
+pub mod Following
 pub mod Closing
 pub mod Answering
 pub mod Differences

@@ -1,14 +1,15 @@
 -- What an engine goes through in a whole job, in order.
-use Rattle.std.proofs.Common.{◌≡◌, ℕ, List, [], ◌∷◌, ◌++◌, map, length, drop, is_ok, sym, refl, ap, ◌∙◌, ap₂, append_assoc, append-nil}
-use Rattle.std.proofs.lemmas.List.{drop_at}
+use Rattle.std.proofs.Common.{◌≡◌, ℕ, Bool, List, [], ◌∷◌, ◌++◌, map, length, drop, is_ok, sym, refl, ap, ◌∙◌, ap₂, append_assoc, append-nil}
+use Rattle.std.specs.List.{flat_map}
+use Rattle.std.proofs.lemmas.List.{drop_at, map-append, map-id}
+use Rattle.std.proofs.lemmas.List.Concat.{flat_map-append, flat_map_single}
 use Rattle.field.specs.Kinds.{block_ring}
-use Rattle.field.specs.declared.kinds.Block.{Block}
-use Rattle.message.specs.Blocks.{blocks, block_of_counts}
-use Rattle.message.proofs.StandardHash.{lengths_counts}
-use Rattle.engine.specs.Chain.{Operation, absorb}
+use Rattle.field.specs.declared.block.Block.{Block}
+use Rattle.message.specs.Blocks.{blocks, block_of_lengths, block_list}
+use Rattle.engine.specs.Chain.{Operation, resume, absorb, switch}
 use Rattle.job.specs.Cuts.{full_blocks, left_over}
-use Rattle.job.specs.Plain.{Answer, brought, accepted}
-use Rattle.job.specs.Runs.{new_blocks, final_block, operations_for, operations_of, gathered, absorb_of, switch_of, resume_of, switch_answers, InOrder}
+use Rattle.job.specs.Plain.{Answer, call_bytes, accepted_bytes}
+use Rattle.job.specs.Runs.{new_blocks, final_block, operations_for, operations_of, job_operations, run_operations, absorb_of, switch_of, resume_of, switch_answers, InOrder}
 use Rattle.job.specs.declared.call.Call.{Call}
 use Rattle.job.specs.declared.call.Call.TheVariants.{Feed, Switch}
 use Rattle.job.proofs.Answering.{new_blocks_follow, no_new_blocks}
@@ -33,87 +34,128 @@ last_left taken =
     ap (drop (length (full_blocks taken))) (blocks_full taken)
     ∙ drop_at (full_blocks taken) (blocks (left_over taken)) (length (full_blocks taken)) refl
 
--- all new blocks of a part, and the last
-whole_part : (taken : List ℕ) → new_blocks [] taken ++ final_block taken ≡ blocks taken
+new_from_none : (taken : List ℕ) → new_blocks [] taken ≡ full_blocks taken
 unfolding full_blocks
-whole_part taken = ap (λ ps. full_blocks taken ++ ps) (last_left taken) ∙ sym (blocks_full taken)
+new_from_none taken = refl
 
--- ---- what is gathered from the operations
+-- the full blocks of a part, and the last
+full_final : (taken : List ℕ) → full_blocks taken ++ final_block taken ≡ blocks taken
+full_final taken = ap (λ ps. full_blocks taken ++ ps) (last_left taken) ∙ sym (blocks_full taken)
 
-gathered_append : {X : Type 0} (f : Operation → List X) (os ps : List Operation) → gathered f (os ++ ps) ≡ gathered f os ++ gathered f ps
-gathered_append f [] ps = refl
-gathered_append f (o ∷ os) ps = ap (λ xs. f o ++ xs) (gathered_append f os ps) ∙ sym (append_assoc (f o) (gathered f os) (gathered f ps))
+-- the full blocks of both parts, each with its last, and the length block
+all_blocks : (header body : List ℕ)
+    → full_blocks header
+    ++ (final_block header ++ (full_blocks body ++ (final_block body ++ (block_of_lengths header body ∷ []))))
+    ≡ block_list header body
+all_blocks header body =
+    let lengths : List Block = block_of_lengths header body ∷ [] in
+    sym (append_assoc (full_blocks header) (final_block header) (full_blocks body ++ (final_block body ++ lengths)))
+    ∙ ap₂ (λ us vs. us ++ vs) (full_final header)
+    (sym (append_assoc (full_blocks body) (final_block body) lengths) ∙ ap (λ us. us ++ lengths) (full_final body))
 
-absorbs_of : (ps : List Block) → gathered absorb_of (map absorb ps) ≡ ps
+-- a job that only feeds absorbs the block list
+pub fed_operations : (header body : List ℕ)
+    → job_operations (map absorb (full_blocks header)) header (map absorb (full_blocks body)) body
+    ≡ resume block_ring.zero ∷ map absorb (block_list header body)
+fed_operations header body =
+    let ends : List Block = final_block body ++ (block_of_lengths header body ∷ []) in
+    ap (λ os. resume block_ring.zero ∷ os)
+    (ap (λ os. map absorb (full_blocks header) ++ (map absorb (final_block header) ++ os))
+    (sym (map-append absorb (full_blocks body) ends))
+    ∙ ap (λ os. map absorb (full_blocks header) ++ os) (sym (map-append absorb (final_block header) (full_blocks body ++ ends)))
+    ∙ sym (map-append absorb (full_blocks header) (final_block header ++ (full_blocks body ++ ends)))
+    ∙ ap (map absorb) (all_blocks header body))
+
+-- ---- what the operations give
+
+absorbs_of : (ps : List Block) → flat_map absorb_of (map absorb ps) ≡ ps
 absorbs_of [] = refl
 absorbs_of (p ∷ ps) = ap (λ xs. p ∷ xs) (absorbs_of ps)
 
 -- absorbs give nothing but their blocks
-none_of : {X : Type 0} (f : Operation → List X) → ((p : Block) → f (absorb p) ≡ []) → (ps : List Block) → gathered f (map absorb ps) ≡ []
+none_of : {X : Type 0} (f : Operation → List X) → ((p : Block) → f (absorb p) ≡ []) → (ps : List Block)
+    → flat_map f (map absorb ps) ≡ []
 none_of f none [] = refl
-none_of f none (p ∷ ps) = ap (λ xs. xs ++ gathered f (map absorb ps)) (none p) ∙ none_of f none ps
+none_of f none (p ∷ ps) = ap (λ xs. xs ++ flat_map f (map absorb ps)) (none p) ∙ none_of f none ps
 
-absorbs_for : (taken : List ℕ) (c : Call) (a : Answer) → gathered absorb_of (operations_for taken c a) ≡ new_blocks taken (brought c a)
-absorbs_for taken (Feed piece) a = absorbs_of (new_blocks taken (brought (Feed piece) a))
+absorbs_for : (taken : List ℕ) (c : Call) (a : Answer)
+    → flat_map absorb_of (operations_for taken c a) ≡ new_blocks taken (call_bytes c a)
+absorbs_for taken (Feed piece) a = absorbs_of (new_blocks taken (call_bytes (Feed piece) a))
 absorbs_for taken Switch a = sym (no_new_blocks taken)
 
-absorbs_in : (taken : List ℕ) (cs : List Call) (xs : List Answer) → gathered absorb_of (operations_of taken cs xs) ≡ new_blocks taken (accepted cs xs)
+absorbs_in : (taken : List ℕ) (cs : List Call) (xs : List Answer)
+    → flat_map absorb_of (operations_of taken cs xs) ≡ new_blocks taken (accepted_bytes cs xs)
 absorbs_in taken [] xs = sym (no_new_blocks taken)
 absorbs_in taken (c ∷ cs) [] = sym (no_new_blocks taken)
 absorbs_in taken (c ∷ cs) (x ∷ xs) =
-    gathered_append absorb_of (operations_for taken c x) (operations_of (taken ++ brought c x) cs xs)
-    ∙ ap₂ (λ ps qs. ps ++ qs) (absorbs_for taken c x) (absorbs_in (taken ++ brought c x) cs xs)
-    ∙ sym (new_append taken (brought c x) (accepted cs xs))
+    flat_map-append absorb_of (operations_for taken c x) (operations_of (taken ++ call_bytes c x) cs xs)
+    ∙ ap₂ (λ ps qs. ps ++ qs) (absorbs_for taken c x) (absorbs_in (taken ++ call_bytes c x) cs xs)
+    ∙ sym (new_append taken (call_bytes c x) (accepted_bytes cs xs))
 
-switches_in : (taken : List ℕ) (cs : List Call) (xs : List Answer) → gathered switch_of (operations_of taken cs xs) ≡ switch_answers cs xs
-switches_in taken [] xs = refl
-switches_in taken (c ∷ cs) [] = refl
-switches_in taken (Feed piece ∷ cs) (x ∷ xs) =
-    gathered_append switch_of (operations_for taken (Feed piece) x) (operations_of (taken ++ brought (Feed piece) x) cs xs)
-    ∙ ap₂ (λ ps qs. ps ++ qs) (none_of switch_of (λ p. refl) (new_blocks taken (brought (Feed piece) x))) (switches_in (taken ++ brought (Feed piece) x) cs xs)
-switches_in taken (Switch ∷ cs) (x ∷ xs) = ap (λ bs. is_ok x ∷ bs) (switches_in (taken ++ []) cs xs)
+-- what is nothing for an absorb is for a list of calls what it is for their switches
+switches_in : {X : Type 0} (f : Operation → List X) → ((p : Block) → f (absorb p) ≡ [])
+    → (taken : List ℕ) (cs : List Call) (xs : List Answer)
+    → flat_map f (operations_of taken cs xs) ≡ flat_map (λ b. f (switch b)) (switch_answers cs xs)
+switches_in f none taken [] xs = refl
+switches_in f none taken (c ∷ cs) [] = refl
+switches_in f none taken (Feed piece ∷ cs) (x ∷ xs) =
+    flat_map-append f (operations_for taken (Feed piece) x) (operations_of (taken ++ call_bytes (Feed piece) x) cs xs)
+    ∙ ap₂ (λ ps qs. ps ++ qs) (none_of f none (new_blocks taken (call_bytes (Feed piece) x)))
+    (switches_in f none (taken ++ call_bytes (Feed piece) x) cs xs)
+switches_in f none taken (Switch ∷ cs) (x ∷ xs) =
+    ap (λ ps. f (switch (is_ok x)) ++ ps) (switches_in f none (taken ++ []) cs xs)
 
-resumes_in : (taken : List ℕ) (cs : List Call) (xs : List Answer) → gathered resume_of (operations_of taken cs xs) ≡ []
-resumes_in taken [] xs = refl
-resumes_in taken (c ∷ cs) [] = refl
-resumes_in taken (Feed piece ∷ cs) (x ∷ xs) =
-    gathered_append resume_of (operations_for taken (Feed piece) x) (operations_of (taken ++ brought (Feed piece) x) cs xs)
-    ∙ ap₂ (λ ps qs. ps ++ qs) (none_of resume_of (λ p. refl) (new_blocks taken (brought (Feed piece) x))) (resumes_in (taken ++ brought (Feed piece) x) cs xs)
-resumes_in taken (Switch ∷ cs) (x ∷ xs) = resumes_in (taken ++ []) cs xs
+each_of : (bs : List Bool) → flat_map (λ b. b ∷ []) bs ≡ bs
+each_of bs = flat_map_single (λ b. b) bs ∙ map-id bs
+
+nothing_of : {X : Type 0} (bs : List Bool) → flat_map {A = X} (λ b. []) bs ≡ []
+nothing_of [] = refl
+nothing_of (b ∷ bs) = nothing_of bs
 
 -- ---- the whole job
 
 four_parts : {X : Type 0} (f : Operation → List X) (os ps qs rs : List Operation)
-    → gathered f (os ++ (ps ++ (qs ++ rs))) ≡ gathered f os ++ (gathered f ps ++ (gathered f qs ++ gathered f rs))
+    → flat_map f (os ++ (ps ++ (qs ++ rs))) ≡ flat_map f os ++ (flat_map f ps ++ (flat_map f qs ++ flat_map f rs))
 four_parts f os ps qs rs =
-    gathered_append f os (ps ++ (qs ++ rs))
-    ∙ ap (λ xs. gathered f os ++ xs)
-    (gathered_append f ps (qs ++ rs) ∙ ap (λ xs. gathered f ps ++ xs) (gathered_append f qs rs))
+    flat_map-append f os (ps ++ (qs ++ rs))
+    ∙ ap (λ xs. flat_map f os ++ xs)
+    (flat_map-append f ps (qs ++ rs) ∙ ap (λ xs. flat_map f ps ++ xs) (flat_map-append f qs rs))
 
-pub in_order : (hs : List Call) (xs : List Answer) (bs : List Call) (ys : List Answer) → InOrder hs xs bs ys
-in_order hs xs bs ys =
-    let header : List ℕ = accepted hs xs in
-    let body : List ℕ = accepted bs ys in
-    let lengths : Block = block_of_counts (length header) (length body) in
-    let ends : List Block = final_block body ++ (lengths ∷ []) in
-    record {
-      resumes =
-          ap (λ vs. block_ring.zero ∷ vs)
-          (four_parts resume_of (operations_of [] hs xs) (map absorb (final_block header)) (operations_of [] bs ys) (map absorb ends)
-          ∙ ap₂ (λ us vs. us ++ vs) (resumes_in [] hs xs)
-          (ap₂ (λ us vs. us ++ vs) (none_of resume_of (λ p. refl) (final_block header))
-          (ap₂ (λ us vs. us ++ vs) (resumes_in [] bs ys) (none_of resume_of (λ p. refl) ends))));
-      absorbs =
-          four_parts absorb_of (operations_of [] hs xs) (map absorb (final_block header)) (operations_of [] bs ys) (map absorb ends)
-          ∙ ap₂ (λ us vs. us ++ vs) (absorbs_in [] hs xs)
-          (ap₂ (λ us vs. us ++ vs) (absorbs_of (final_block header))
-          (ap₂ (λ us vs. us ++ vs) (absorbs_in [] bs ys) (absorbs_of ends)))
-          ∙ sym (append_assoc (new_blocks [] header) (final_block header) (new_blocks [] body ++ ends))
-          ∙ ap₂ (λ us vs. us ++ vs) (whole_part header)
-          (sym (append_assoc (new_blocks [] body) (final_block body) (lengths ∷ [])) ∙ ap₂ (λ us p. us ++ (p ∷ [])) (whole_part body) (sym (lengths_counts header body)));
-      switches =
-          four_parts switch_of (operations_of [] hs xs) (map absorb (final_block header)) (operations_of [] bs ys) (map absorb ends)
-          ∙ ap₂ (λ us vs. us ++ vs) (switches_in [] hs xs)
-          (ap₂ (λ us vs. us ++ vs) (none_of switch_of (λ p. refl) (final_block header))
-          (ap₂ (λ us vs. us ++ vs) (switches_in [] bs ys) (none_of switch_of (λ p. refl) ends) ∙ append-nil (switch_answers bs ys)));
-    }
+module _ (hs : List Call) (xs : List Answer) (bs : List Call) (ys : List Answer) where
+  -- the same for a run: what it is for the resume, and for the switches of both parts
+  switches_in_run : {X : Type 0} (f : Operation → List X) → ((p : Block) → f (absorb p) ≡ [])
+      → flat_map f (run_operations hs xs bs ys)
+      ≡ f (resume block_ring.zero)
+      ++ (flat_map (λ b. f (switch b)) (switch_answers hs xs) ++ flat_map (λ b. f (switch b)) (switch_answers bs ys))
+  switches_in_run f none =
+      let header : List ℕ = accepted_bytes hs xs in
+      let body : List ℕ = accepted_bytes bs ys in
+      let ends : List Block = final_block body ++ (block_of_lengths header body ∷ []) in
+      ap (λ us. f (resume block_ring.zero) ++ us)
+      (four_parts f (operations_of [] hs xs) (map absorb (final_block header)) (operations_of [] bs ys) (map absorb ends)
+      ∙ ap₂ (λ us vs. us ++ vs) (switches_in f none [] hs xs)
+      (ap₂ (λ us vs. us ++ vs) (none_of f none (final_block header))
+      (ap₂ (λ us vs. us ++ vs) (switches_in f none [] bs ys) (none_of f none ends)
+      ∙ append-nil (flat_map (λ b. f (switch b)) (switch_answers bs ys)))))
+
+  absorbs_in_run : flat_map absorb_of (run_operations hs xs bs ys) ≡ block_list (accepted_bytes hs xs) (accepted_bytes bs ys)
+  absorbs_in_run =
+      let header : List ℕ = accepted_bytes hs xs in
+      let body : List ℕ = accepted_bytes bs ys in
+      let ends : List Block = final_block body ++ (block_of_lengths header body ∷ []) in
+      four_parts absorb_of (operations_of [] hs xs) (map absorb (final_block header)) (operations_of [] bs ys) (map absorb ends)
+      ∙ ap₂ (λ us vs. us ++ vs) (absorbs_in [] hs xs ∙ new_from_none header)
+      (ap₂ (λ us vs. us ++ vs) (absorbs_of (final_block header))
+      (ap₂ (λ us vs. us ++ vs) (absorbs_in [] bs ys ∙ new_from_none body) (absorbs_of ends)))
+      ∙ all_blocks header body
+
+  pub in_order : InOrder hs xs bs ys
+  in_order = record {
+    resumes =
+        switches_in_run resume_of (λ p. refl)
+        ∙ ap₂ (λ us vs. block_ring.zero ∷ (us ++ vs)) (nothing_of (switch_answers hs xs)) (nothing_of (switch_answers bs ys));
+    absorbs = absorbs_in_run;
+    switches =
+        switches_in_run switch_of (λ p. refl)
+        ∙ ap₂ (λ us vs. us ++ vs) (each_of (switch_answers hs xs)) (each_of (switch_answers bs ys));
+  }

@@ -1,5 +1,6 @@
 pub mod Cuts
 pub mod Plain
+pub mod Buffers
 pub mod Jobs
 pub mod Runs
 pub mod Differences

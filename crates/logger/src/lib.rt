@@ -1,9 +1,9 @@
-// Calls for a C program: blocks cross as two numbers, refusals as negative ones.
+// Calls for a C program: blocks cross as two numbers each, refusals as negative ones.
 #![tactic(auto)]
 
 mod calls;
+mod output;
 mod scratch;
-mod seal;
 mod status;
 
 pub use calls::{sonde_check_tag, sonde_tag, sonde_try_polynomial};

@@ -1,17 +1,29 @@
 -- The blocks of a part, piece by piece.
-use Rattle.std.proofs.Common.{◌≡◌, ℕ, zero, suc, ◌+◌, ◌<◌, ◌≤◌, min, ◌⊎◌, List, [], ◌∷◌, ◌++◌, length, take, drop, sym, refl, ap, ◌∙◌, ap₂, inl, inr, append-nil, arith, length-append}
+use Rattle.std.proofs.Common.{◌≡◌, ℕ, zero, suc, ◌+◌, ◌*◌, ◌<◌, ◌≤◌, min, ◌⊎◌, List, [], ◌∷◌, ◌++◌, length, take, drop, sym, refl, ap, ◌∙◌, ap₂, inl, inr, append-nil, arith, length-append}
 use native.Mathlib.Decide.{dec_le}
-use Rattle.std.proofs.lemmas.List.{take_at, drop_at, take_all, drop_all, nil_from_length}
-use Rattle.field.specs.Bytes.{block_of}
-use Rattle.message.specs.Blocks.{blocks_taken, filled, cut, blocks, block_of_lengths, block_list}
+use Rattle.std.proofs.Math.Nat.{suc-mul}
+use Rattle.std.specs.List.{concat}
+use Rattle.std.specs.Simd.{first_chunks}
+use Rattle.std.proofs.lemmas.List.{length-drop, length-map, take-append-drop, take_at, drop_at, take_all, drop_all, nil_from_length}
+use Rattle.message.specs.Blocks.{block_from, blocks_taken, first_blocks, blocks, block_of_lengths, block_list}
 
-pub length_cut : (n : ℕ) (bytes : List ℕ) → length (cut n bytes) ≡ n
-length_cut zero bytes = refl
-length_cut (suc n) bytes = ap suc (length_cut n (drop 16 bytes))
+-- pieces of any one width
+pub length-first_chunks : (width n : ℕ) (xs : List ℕ) → length (first_chunks width n xs) ≡ n
+length-first_chunks width zero xs = refl
+length-first_chunks width (suc n) xs = ap suc (length-first_chunks width n (drop width xs))
+
+-- pieces that are long enough for all are all, joined
+pub concat-first_chunks : (width n : ℕ) (xs : List ℕ) → length xs ≤ n * width → concat (first_chunks width n xs) ≡ xs
+concat-first_chunks width zero xs within = sym (nil_from_length xs (omega arith))
+concat-first_chunks width (suc n) xs within =
+    let left : length (drop width xs) ≤ n * width = omega (arith, length-drop width xs, suc-mul n width) in
+    ap (λ (ys : List ℕ). take width xs ++ ys) (concat-first_chunks width n (drop width xs) left) ∙ take-append-drop width xs
 
 pub length_blocks : (bytes : List ℕ) → length (blocks bytes) ≡ blocks_taken (length bytes)
 unfolding blocks
-length_blocks bytes = length_cut (blocks_taken (length bytes)) bytes
+length_blocks bytes =
+    length-map (first_chunks 16 (blocks_taken (length bytes)) bytes) block_from
+    ∙ length-first_chunks 16 (blocks_taken (length bytes)) bytes
 
 -- both parts' blocks and the length block
 pub length_block_list : (header body : List ℕ) → blocks_taken (length header) + blocks_taken (length body) + 1 ≡ length (block_list header body)
@@ -22,7 +34,7 @@ length_block_list header body =
 
 pub blocks_none : (bytes : List ℕ) → length bytes ≡ 0 → blocks bytes ≡ []
 unfolding blocks
-blocks_none bytes empty = let e : blocks_taken (length bytes) ≡ 0 = omega arith in ap (λ (n : ℕ). cut n bytes) e
+blocks_none bytes empty = let e : blocks_taken (length bytes) ≡ 0 = omega arith in ap (λ (n : ℕ). first_blocks n bytes) e
 
 -- a piece of some width, shorter only where nothing follows
 abbrev pub Next : ℕ → List ℕ → List ℕ → Type 0
@@ -60,11 +72,11 @@ module _ (piece more : List ℕ) (size : length piece ≡ min 16 (length (piece 
   next : Next 16 piece more
   next = next_of 16 piece more size
 
-  pub blocks_more : blocks (piece ++ more) ≡ block_of (filled piece) ∷ blocks more
+  pub blocks_more : blocks (piece ++ more) ≡ block_from piece ∷ blocks more
   unfolding blocks
   blocks_more =
       let whole = length-append piece more in
       let count : blocks_taken (length (piece ++ more)) ≡ suc (blocks_taken (length more)) =
       elim next [ inl full ↦ omega arith | inr short ↦ omega arith ] in
-      ap (λ (n : ℕ). cut n (piece ++ more)) count
-      ∙ ap₂ (λ (p ys : List ℕ). block_of (filled p) ∷ cut (blocks_taken (length more)) ys) (take_next 16 piece more next) (drop_next 16 piece more next)
+      ap (λ (n : ℕ). first_blocks n (piece ++ more)) count
+      ∙ ap₂ (λ (p ys : List ℕ). block_from p ∷ first_blocks (blocks_taken (length more)) ys) (take_next 16 piece more next) (drop_next 16 piece more next)

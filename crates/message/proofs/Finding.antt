@@ -1,36 +1,15 @@
 -- The pieces of a header and a body that are found one by one.
-use Rattle.std.proofs.Common.{◌≡◌, ℕ, zero, suc, ◌+◌, ◌-◌, ◌*◌, ◌<◌, ◌≤◌, List, [], ◌∷◌, ◌++◌, map, length, take, drop, Some, sym, refl, ap, ◌∙◌, ap₂, append_assoc, arith, length-drop, take-append-drop, lt-ltb}
+use Rattle.std.proofs.Common.{◌≡◌, ℕ, zero, suc, ◌+◌, ◌-◌, ◌*◌, ◌<◌, ◌≤◌, List, ◌∷◌, ◌++◌, map, length, take, drop, Some, sym, refl, ap, ◌∙◌, ap₂, arith, lt-ltb}
 use mathlib.Core.List.{map-append}
-use Rattle.std.specs.List.{range_with_len}
-use Rattle.std.proofs.lemmas.List.{drop-drop, nil_from_length}
+use Rattle.std.proofs.lemmas.List.Folds.{concat-append}
+use Rattle.std.specs.Simd.{first_chunks}
+use Rattle.std.specs.List.{concat, range_with_len}
+use Rattle.std.proofs.lemmas.List.{drop-drop}
 use Rattle.std.proofs.lemmas.Bool.{cond-true, cond-false, le-ltb}
-use Rattle.field.specs.Bytes.{block_of}
-use Rattle.field.specs.declared.kinds.Block.{Block}
-use Rattle.message.specs.Blocks.{blocks_taken, filled, cut, blocks}
-use Rattle.message.specs.Finding.{place_of, bytes_at, pieces, joined, Covered}
+use Rattle.message.specs.Blocks.{block_from, blocks_taken, blocks}
+use Rattle.message.specs.Finding.{block_place, bytes_at, block_pieces, CoversMessage}
 use Rattle.message.specs.declared.part.Part.TheVariants.{Header, Body}
-
--- n pieces of one part, 16 bytes at a time
-abbrev cut_bytes : ℕ → List ℕ → List (List ℕ)
-cut_bytes zero bytes = []
-cut_bytes (suc n) bytes = take 16 bytes ∷ cut_bytes n (drop 16 bytes)
-
-abbrev fill : List ℕ → Block
-fill piece = block_of (filled piece)
-
-cut_filled : (n : ℕ) (bytes : List ℕ) → map fill (cut_bytes n bytes) ≡ cut n bytes
-cut_filled zero bytes = refl
-cut_filled (suc n) bytes = ap (λ ps. fill (take 16 bytes) ∷ ps) (cut_filled n (drop 16 bytes))
-
-cut_joined : (n : ℕ) (bytes : List ℕ) → length bytes ≤ 16 * n → joined (cut_bytes n bytes) ≡ bytes
-cut_joined zero bytes none = sym (nil_from_length bytes (omega arith))
-cut_joined (suc n) bytes within =
-    let rest : length (drop 16 bytes) ≤ 16 * n = simp length-drop (omega arith) in
-    ap (λ xs. take 16 bytes ++ xs) (cut_joined n (drop 16 bytes) rest) ∙ take-append-drop 16 bytes
-
-joined_append : (xs ys : List (List ℕ)) → joined (xs ++ ys) ≡ joined xs ++ joined ys
-joined_append [] ys = refl
-joined_append (x ∷ xs) ys = ap (λ zs. x ++ zs) (joined_append xs ys) ∙ sym (append_assoc x (joined xs) (joined ys))
+use Rattle.message.proofs.Cutting.{concat-first_chunks}
 
 counting_append : (a m n : ℕ) → range_with_len a (m + n) ≡ range_with_len a m ++ range_with_len (a + m) n
 counting_append a zero n =
@@ -44,7 +23,7 @@ counting_append a (suc m) n =
 
 -- numbers from a on, where number a + j has piece k + j of a part
 part_pieces : (f : ℕ → List ℕ) (part : List ℕ) (n a k : ℕ) → ((j : ℕ) → j < n → f (a + j) ≡ take 16 (drop (16 * (k + j)) part))
-    → map f (range_with_len a n) ≡ cut_bytes n (drop (16 * k) part)
+    → map f (range_with_len a n) ≡ first_chunks 16 n (drop (16 * k) part)
 part_pieces f part zero a k each = refl
 part_pieces f part (suc n) a k each =
     let here : a ≡ a + 0 = omega arith in
@@ -55,8 +34,8 @@ part_pieces f part (suc n) a k each =
     let e : a + 1 + j ≡ a + suc j = omega arith in
     let d : 16 * (k + suc j) ≡ 16 * (suc k + j) = omega arith in
     ap f e ∙ each (suc j) (omega arith) ∙ ap (λ i. take 16 (drop i part)) d)
-    ∙ ap (λ i. cut_bytes n (drop i part)) next
-    ∙ ap (cut_bytes n) (sym (drop-drop 16 (16 * k) part)))
+    ∙ ap (λ i. first_chunks 16 n (drop i part)) next
+    ∙ ap (first_chunks 16 n) (sym (drop-drop 16 (16 * k) part)))
 
 module _ (header body : List ℕ) where
   abbrev in_header : ℕ
@@ -65,38 +44,37 @@ module _ (header body : List ℕ) where
   abbrev in_body : ℕ
   in_body = blocks_taken (length body)
 
-  pub place_in_header : (n : ℕ) → n < in_header → place_of header body n ≡ Some (Header, 16 * n)
+  pub place_in_header : (n : ℕ) → n < in_header → block_place header body n ≡ Some (Header, 16 * n)
   place_in_header n below = cond-true _ _ _ (lt-ltb n in_header below)
 
-  pub place_in_body : (n : ℕ) → in_header ≤ n → n < in_header + in_body → place_of header body n ≡ Some (Body, 16 * (n - in_header))
+  pub place_in_body : (n : ℕ) → in_header ≤ n → n < in_header + in_body → block_place header body n ≡ Some (Body, 16 * (n - in_header))
   place_in_body n past below = cond-false _ _ _ (le-ltb n in_header past) ∙ cond-true _ _ _ (lt-ltb n (in_header + in_body) below)
 
   abbrev found : ℕ → List ℕ
-  found n = bytes_at header body (place_of header body n)
+  found n = bytes_at header body (block_place header body n)
 
-  header_pieces : map found (range_with_len 0 in_header) ≡ cut_bytes in_header header
+  header_pieces : map found (range_with_len 0 in_header) ≡ first_chunks 16 in_header header
   header_pieces = part_pieces found header in_header 0 0 (λ j below.
       let n : ℕ = 0 + j in
       ap (bytes_at header body) (place_in_header n (omega arith)))
 
-  body_pieces : map found (range_with_len (0 + in_header) in_body) ≡ cut_bytes in_body body
+  body_pieces : map found (range_with_len (0 + in_header) in_body) ≡ first_chunks 16 in_body body
   body_pieces = part_pieces found body in_body (0 + in_header) 0 (λ j below.
       let n : ℕ = 0 + in_header + j in
       let e : 16 * (n - in_header) ≡ 16 * (0 + j) = omega arith in
       ap (bytes_at header body) (place_in_body n (omega arith) (omega arith)) ∙ ap (λ i. take 16 (drop i body)) e)
 
-  all_pieces : pieces header body ≡ cut_bytes in_header header ++ cut_bytes in_body body
+  all_pieces : block_pieces header body ≡ first_chunks 16 in_header header ++ first_chunks 16 in_body body
   all_pieces =
       ap (map found) (counting_append 0 in_header in_body) ∙ map-append found (range_with_len 0 in_header) (range_with_len (0 + in_header) in_body)
       ∙ ap₂ (λ xs ys. xs ++ ys) header_pieces body_pieces
 
-  pub covered : Covered header body
+  pub covered : CoversMessage header body
   unfolding blocks
   covered = record {
     filled =
-        ap (map fill) all_pieces ∙ map-append fill (cut_bytes in_header header) (cut_bytes in_body body)
-        ∙ ap₂ (λ xs ys. xs ++ ys) (cut_filled in_header header) (cut_filled in_body body);
+        ap (map block_from) all_pieces ∙ map-append block_from (first_chunks 16 in_header header) (first_chunks 16 in_body body);
     bytes =
-        ap joined all_pieces ∙ joined_append (cut_bytes in_header header) (cut_bytes in_body body)
-        ∙ ap₂ (λ xs ys. xs ++ ys) (cut_joined in_header header (omega arith)) (cut_joined in_body body (omega arith));
+        ap concat all_pieces ∙ concat-append (first_chunks 16 in_header header) (first_chunks 16 in_body body)
+        ∙ ap₂ (λ xs ys. xs ++ ys) (concat-first_chunks 16 in_header header (omega arith)) (concat-first_chunks 16 in_body body (omega arith));
   }

@@ -3,35 +3,34 @@ use Rattle.std.proofs.Common.{◌≡◌, ℕ, zero, suc, ◌+◌, ◌-◌, ◌*�
 use native.Mathlib.Decide.{dec_le}
 use native.Mathlib.Nat.{div-div-eq-div-mul}
 use lib.ListN.{length-replicate}
+use Rattle.std.specs.List.{flat_map}
+use Rattle.std.proofs.lemmas.List.Concat.{flat_map-append}
 use Rattle.std.proofs.lemmas.List.{take_at, drop_at, take_all, length-take-le}
 use Rattle.field.specs.Bytes.{block_of}
 use Rattle.field.specs.Digits.{numeral, digits}
-use Rattle.field.specs.Evaluation.{eval, absorbed}
+use Rattle.field.specs.Evaluation.{eval, horner}
 use Rattle.field.specs.Kinds.{block_ring}
-use Rattle.field.specs.declared.kinds.Block.{Block}
+use Rattle.field.specs.declared.block.Block.{Block}
+use Rattle.message.specs.Answer.{digest_of}
+use Rattle.message.specs.declared.digest.Pad.{Pad}
 use Rattle.field.proofs.Digits.{length_digits, digits_mod}
-use Rattle.field.proofs.Horner.{absorbed_eval}
+use Rattle.field.proofs.Horner.{horner_eval}
 use Rattle.field.specs.Instances.{block_ring_laws, block_sum_bits, block_product_bits}
-use Rattle.message.specs.Blocks.{AreBytes, blocks_taken, filled, cut, blocks, block_of_lengths, block_of_counts, block_list}
-use Rattle.message.specs.Hash.{hash_of, tag_of}
-use Rattle.message.specs.Standard.{bits, string, zeros, xor, product, ghash_from, ghash, padded, message, block_string, MeetsStandard}
+use Rattle.message.specs.Blocks.{AreBytes, block_from, blocks_taken, filled_piece, first_blocks, blocks, block_of_lengths, block_of_counts, block_list}
+use Rattle.message.specs.Hash.{hash_of}
+use Rattle.message.specs.Standard.{bits, string, zeros, xor, product, ghash_from, ghash, padded_string, message, block_string, MeetsStandard}
 use Rattle.message.proofs.Strings.{xor_bits, string_append, length_string, string_zeros, string_digits, string_number}
 use Rattle.message.proofs.StandardProduct.{product_bits, zeros_bits}
 
 -- blocks one after the other, as a string
-abbrev joined : List Block → List ℕ
-joined [] = []
-joined (p ∷ ps) = block_string p ++ joined ps
+abbrev strings_of : List Block → List ℕ
+strings_of ps = flat_map block_string ps
 
-joined_append : (ps qs : List Block) → joined (ps ++ qs) ≡ joined ps ++ joined qs
-joined_append [] qs = refl
-joined_append (p ∷ ps) qs = ap (λ (s : List ℕ). block_string p ++ s) (joined_append ps qs) ∙ sym (append_assoc (block_string p) (joined ps) (joined qs))
-
-length_joined : (ps : List Block) → length (joined ps) ≡ length ps * 128
-length_joined [] = refl
-length_joined (p ∷ ps) =
-    length-append (block_string p) (joined ps)
-    ∙ ap₂ (λ (m n : ℕ). m + n) (length_digits 2 128 p.bits) (length_joined ps)
+length_strings : (ps : List Block) → length (strings_of ps) ≡ length ps * 128
+length_strings [] = refl
+length_strings (p ∷ ps) =
+    length-append (block_string p) (strings_of ps)
+    ∙ ap₂ (λ (m n : ℕ). m + n) (length_digits 2 128 p.bits) (length_strings ps)
     ∙ omega arith
 
 -- ---- the recursion
@@ -42,22 +41,22 @@ one_step h y p =
     ∙ product_bits (block_ring.sum y p).bits h.bits h.fits
     ∙ ap (bits 128) (sym (block_product_bits (block_ring.sum y p) h))
 
-steps : (h y : Block) (ps : List Block) → ghash_from (block_string h) (block_string y) (length ps) (joined ps) ≡ block_string (absorbed block_ring h y ps)
+steps : (h y : Block) (ps : List Block) → ghash_from (block_string h) (block_string y) (length ps) (strings_of ps) ≡ block_string (horner block_ring h y ps)
 steps h y [] = refl
 steps h y (p ∷ ps) =
     let wide : length (block_string p) ≡ 128 = length_digits 2 128 p.bits in
     ap₂ (λ (x s : List ℕ). ghash_from (block_string h) (product (xor (block_string y) x) (block_string h)) (length ps) s)
-    (take_at (block_string p) (joined ps) 128 wide) (drop_at (block_string p) (joined ps) 128 wide)
-    ∙ ap (λ (z : List ℕ). ghash_from (block_string h) z (length ps) (joined ps)) (one_step h y p)
+    (take_at (block_string p) (strings_of ps) 128 wide) (drop_at (block_string p) (strings_of ps) 128 wide)
+    ∙ ap (λ (z : List ℕ). ghash_from (block_string h) z (length ps) (strings_of ps)) (one_step h y p)
     ∙ steps h (block_ring.product (block_ring.sum y p) h) ps
 
-ghash_blocks : (h : Block) (ps : List Block) → ghash (block_string h) (joined ps) ≡ block_string (eval block_ring h ps)
+ghash_blocks : (h : Block) (ps : List Block) → ghash (block_string h) (strings_of ps) ≡ block_string (eval block_ring h ps)
 unfolding ghash
 ghash_blocks h ps =
-    let count : length (joined ps) / 128 ≡ length ps = ap (λ (n : ℕ). n / 128) (length_joined ps) ∙ mul-div_cancel (length ps) (omega arith) in
-    ap₂ (λ (y : List ℕ) (n : ℕ). ghash_from (block_string h) y n (joined ps)) zeros_bits count
+    let count : length (strings_of ps) / 128 ≡ length ps = ap (λ (n : ℕ). n / 128) (length_strings ps) ∙ mul-div_cancel (length ps) (omega arith) in
+    ap₂ (λ (y : List ℕ) (n : ℕ). ghash_from (block_string h) y n (strings_of ps)) zeros_bits count
     ∙ steps h block_ring.zero ps
-    ∙ ap block_string (absorbed_eval block_ring block_ring_laws h [] ps)
+    ∙ ap block_string (horner_eval block_ring block_ring_laws h [] ps)
 
 -- ---- the string that is hashed
 
@@ -94,15 +93,15 @@ small_digits (suc n) v zero = omega arith
 small_digits (suc n) v (suc k) = small_digits n v k
 
 -- a shorter piece, filled up to 16 bytes
-filled_same : (xs : List ℕ) → AreBytes xs → length xs ≤ 16 → block_string (block_of (filled xs)) ≡ string (filled xs)
+filled_same : (xs : List ℕ) → AreBytes xs → length xs ≤ 16 → block_string (block_of (filled_piece xs)) ≡ string (filled_piece xs)
 filled_same xs small short =
-    let whole : length (filled xs) ≡ 16 = length-append xs (replicate (16 - length xs) 0) ∙ ap (λ (n : ℕ). length xs + n) (length-replicate (16 - length xs) 0) ∙ omega arith in
-    block_string_same (filled xs) (small_append xs (replicate (16 - length xs) 0) small (small_zeros (16 - length xs))) whole
+    let whole : length (filled_piece xs) ≡ 16 = length-append xs (replicate (16 - length xs) 0) ∙ ap (λ (n : ℕ). length xs + n) (length-replicate (16 - length xs) 0) ∙ omega arith in
+    block_string_same (filled_piece xs) (small_append xs (replicate (16 - length xs) 0) small (small_zeros (16 - length xs))) whole
 
-pub first_same : (xs : List ℕ) → AreBytes xs → block_string (block_of (filled (take 16 xs))) ≡ string (filled (take 16 xs))
+pub first_same : (xs : List ℕ) → AreBytes xs → block_string (block_from (take 16 xs)) ≡ string (filled_piece (take 16 xs))
 first_same xs small = filled_same (take 16 xs) (small_take 16 xs small) (rw length-take (omega arith))
 
-filled_string : (xs : List ℕ) → AreBytes xs → length xs ≤ 16 → block_string (block_of (filled xs)) ≡ string xs ++ zeros (8 * (16 - length xs))
+filled_string : (xs : List ℕ) → AreBytes xs → length xs ≤ 16 → block_string (block_of (filled_piece xs)) ≡ string xs ++ zeros (8 * (16 - length xs))
 filled_string xs small short =
     filled_same xs small short
     ∙ string_append xs (replicate (16 - length xs) 0)
@@ -110,7 +109,7 @@ filled_string xs small short =
 
 -- n blocks of a part, the last of which may be short
 cut_string : (n : ℕ) (xs : List ℕ) → AreBytes xs → length xs ≤ 16 * n → 16 * n < length xs + 16
-    → joined (cut n xs) ≡ string xs ++ zeros (8 * (16 * n - length xs))
+    → strings_of (first_blocks n xs) ≡ string xs ++ zeros (8 * (16 * n - length xs))
 unfolding string
 cut_string zero [] small low high = refl
 cut_string zero (x ∷ xs) small low high = absurd (omega arith)
@@ -120,7 +119,7 @@ cut_string (suc n) xs small low high =
           let full : length (take 16 xs) ≡ 16 = length-take-le 16 xs h in
           let rest : length (drop 16 xs) ≡ length xs - 16 = length-drop 16 xs in
           let left : 16 * n - length (drop 16 xs) ≡ 16 * suc n - length xs = omega arith in
-          let first : block_string (block_of (filled (take 16 xs))) ≡ string (take 16 xs) =
+          let first : block_string (block_from (take 16 xs)) ≡ string (take 16 xs) =
           filled_string (take 16 xs) (small_take 16 xs small) (omega arith)
           ∙ ap (λ (k : ℕ). string (take 16 xs) ++ zeros (8 * (16 - k))) full
           ∙ append-nil (string (take 16 xs)) in
@@ -134,13 +133,13 @@ cut_string (suc n) xs small low high =
           let last : n ≡ 0 = omega arith in
           let left : 16 - length xs ≡ 16 * suc n - length xs = omega arith in
           let short : length xs ≤ 16 = omega arith in
-          ap₂ (λ (k : ℕ) (p : List ℕ). block_string (block_of (filled p)) ++ joined (cut k (drop 16 xs))) last (take_all 16 xs short)
-          ∙ append-nil (block_string (block_of (filled xs)))
+          ap₂ (λ (k : ℕ) (p : List ℕ). block_string (block_from p) ++ strings_of (first_blocks k (drop 16 xs))) last (take_all 16 xs short)
+          ∙ append-nil (block_string (block_of (filled_piece xs)))
           ∙ filled_string xs small short
           ∙ ap (λ (k : ℕ). string xs ++ zeros (8 * k)) left
     ]
 
-part_string : (xs : List ℕ) → AreBytes xs → joined (blocks xs) ≡ padded (string xs)
+part_string : (xs : List ℕ) → AreBytes xs → strings_of (blocks xs) ≡ padded_string (string xs)
 unfolding blocks
 part_string xs small =
     let n : ℕ = length xs in
@@ -168,17 +167,17 @@ lengths_string header body =
     (string_digits 8 (8 * length header) ∙ ap (bits 64) (sym (length_string header)))
     (string_digits 8 (8 * length body) ∙ ap (bits 64) (sym (length_string body)))
 
-message_string : (header body : List ℕ) → AreBytes header → AreBytes body → joined (block_list header body) ≡ message (string header) (string body)
+message_string : (header body : List ℕ) → AreBytes header → AreBytes body → strings_of (block_list header body) ≡ message (string header) (string body)
 unfolding message
 message_string header body small small' =
-    joined_append (blocks header) (blocks body ++ (block_of_lengths header body ∷ []))
+    flat_map-append block_string (blocks header) (blocks body ++ (block_of_lengths header body ∷ []))
     ∙ ap₂ (λ (s t : List ℕ). s ++ t) (part_string header small)
-    (joined_append (blocks body) (block_of_lengths header body ∷ [])
+    (flat_map-append block_string (blocks body) (block_of_lengths header body ∷ [])
     ∙ ap₂ (λ (s t : List ℕ). s ++ t) (part_string body small')
     (append-nil (block_string (block_of_lengths header body)) ∙ lengths_string header body))
 
-pub meets_standard : (subkey pad : Block) (header body : List ℕ) → AreBytes header → AreBytes body
-    → MeetsStandard subkey pad header body (hash_of subkey header body) (tag_of subkey pad header body)
+pub meets_standard : (subkey : Block) (pad : Pad) (header body : List ℕ) → AreBytes header → AreBytes body
+    → MeetsStandard subkey pad header body (digest_of subkey pad header body)
 unfolding hash_of
 meets_standard subkey pad header body small small' =
     let hash : Block = eval block_ring subkey (block_list header body) in
@@ -187,6 +186,6 @@ meets_standard subkey pad header body small small' =
     record {
       hashed = sym same;
       tagged =
-          ap (bits 128) (block_sum_bits hash pad)
-          ∙ sym (ap (λ (s : List ℕ). xor s (block_string pad)) same ∙ xor_bits 128 hash.bits pad.bits);
+          ap (bits 128) (block_sum_bits hash pad.0)
+          ∙ sym (ap (λ (s : List ℕ). xor s (block_string pad.0)) same ∙ xor_bits 128 hash.bits pad.0.bits);
     }

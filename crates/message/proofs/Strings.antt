@@ -3,7 +3,7 @@ use Rattle.std.proofs.Common.{◌≡◌, ℕ, zero, suc, ◌+◌, ◌-◌, ◌*�
 use native.Mathlib.Nat.{div-eq_of_lt}
 use lib.Bits.{bit_xor, xor_zero_r}
 use Rattle.std.proofs.lemmas.List.{take_at, replicate-append-replicate}
-use Rattle.field.specs.Binary.{part}
+use Rattle.field.specs.Binary.{times_bit}
 use Rattle.field.specs.Digits.{numeral, digits}
 use Rattle.field.proofs.Digits.{length_digits, digits_append, digits_mod, digits_numeral}
 use Rattle.field.specs.Orders.{bit_additive}
@@ -17,7 +17,7 @@ unfolding digits
 xor_bits zero a b = refl
 xor_bits (suc s) a b = ap₂ (λ (x : ℕ) (xs : List ℕ). x ∷ xs) (sym (bit_additive s a b)) (xor_bits s a b)
 
-pub select_bits : (s bit a b : ℕ) → select bit (bits s a) (xor (bits s a) (bits s b)) ≡ bits s (bit_xor a (part bit b))
+pub select_bits : (s bit a b : ℕ) → select bit (bits s a) (xor (bits s a) (bits s b)) ≡ bits s (bit_xor a (times_bit bit b))
 select_bits s zero a b = ap (bits s) (sym (xor_zero_r a))
 select_bits s (suc bit) a b = xor_bits s a b
 

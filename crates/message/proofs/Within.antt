@@ -1,8 +1,10 @@
 -- Answers for parts within their limits.
-use Rattle.std.proofs.Common.{◌≡◌, ℕ, Bool, true, false, cond, ltb, List, length, Ok, Err, Result, refl, ap, ◌∙◌}
+use Rattle.std.proofs.Common.{◌≡◌, ℕ, Bool, true, false, cond, ltb, List, length, Ok, Err, Result, ◌≤◌, refl, ap, ◌∙◌, subst}
 use Rattle.refusal.specs.declared.Refusal.{Refusal}
 use Rattle.refusal.specs.declared.Refusal.TheVariants.{HeaderTooLong, BodyTooLong}
+use Rattle.std.proofs.lemmas.Bool.{cond-false, le-ltb}
 use Rattle.message.specs.Limits.{header_limit, body_limit, within_limits}
+use Rattle.message.specs.declared.message.CheckedMessage.{CheckedMessage}
 
 -- what a function makes of an answer, by its three ways
 pub by_ways : {X Y : Type 0} (f : Result X Refusal → Y) (header body : List ℕ) (answer : Result X Refusal) (h b ok : Y)
@@ -37,3 +39,11 @@ accepted_value {X} header body x y said = ap inside said ∙ by_ways inside head
   inside : Result X Refusal → X
   inside (Ok z) = z
   inside (Err e) = y
+
+-- an answer to a message whose lengths are right by its type
+pub checked_answer : {X : Type 0} (answer : Result X Refusal) (header body : List ℕ) (m : CheckedMessage)
+    → m.header.now ≡ header → m.body.now ≡ body → within_limits header body answer ≡ answer
+checked_answer answer header body m same_header same_body =
+    let short : length header ≤ header_limit = subst (λ (xs : List ℕ). length xs ≤ header_limit) same_header m.short in
+    let few : length body ≤ body_limit = subst (λ (xs : List ℕ). length xs ≤ body_limit) same_body m.few in
+    cond-false _ _ _ (le-ltb header_limit (length header) short) ∙ cond-false _ _ _ (le-ltb body_limit (length body) few)

@@ -1,8 +1,9 @@
 -- A header and a body as a list of blocks.
-use Rattle.std.specs.Prelude.{ℕ, zero, suc, ◌+◌, ◌-◌, ◌*◌, ◌/◌, ◌<◌, List, [], ◌∷◌, ◌++◌, length, take, drop, replicate, slice_index}
+use Rattle.std.specs.Prelude.{ℕ, ◌+◌, ◌-◌, ◌*◌, ◌/◌, ◌<◌, List, [], ◌∷◌, ◌++◌, length, map, replicate, slice_index}
+use Rattle.std.specs.Simd.{first_chunks}
 use Rattle.field.specs.Bytes.{block_of}
 use Rattle.field.specs.Digits.{digits}
-use Rattle.field.specs.declared.kinds.Block.{Block}
+use Rattle.field.specs.declared.block.Block.{Block}
 
 -- numbers below 256
 abbrev pub AreBytes : List ℕ → Type 0
@@ -13,17 +14,20 @@ abbrev pub blocks_taken : ℕ → ℕ
 blocks_taken n = (n + 15) / 16
 
 -- zeros up to 16 bytes
-abbrev pub filled : List ℕ → List ℕ
-filled piece = piece ++ replicate (16 - length piece) 0
+abbrev pub filled_piece : List ℕ → List ℕ
+filled_piece piece = piece ++ replicate (16 - length piece) 0
+
+-- the block of up to 16 bytes
+abbrev pub block_from : List ℕ → Block
+block_from piece = block_of (filled_piece piece)
 
 -- n blocks, 16 bytes at a time
-abbrev pub cut : ℕ → List ℕ → List Block
-cut zero bytes = []
-cut (suc n) bytes = block_of (filled (take 16 bytes)) ∷ cut n (drop 16 bytes)
+abbrev pub first_blocks : ℕ → List ℕ → List Block
+first_blocks n bytes = map block_from (first_chunks 16 n bytes)
 
 -- the blocks of one part; an empty part has none
 unfoldable pub blocks : List ℕ → List Block
-blocks bytes = cut (blocks_taken (length bytes)) bytes
+blocks bytes = first_blocks (blocks_taken (length bytes)) bytes
 
 -- the lengths of both parts in bits, eight bytes each
 unfoldable pub block_of_lengths : List ℕ → List ℕ → Block

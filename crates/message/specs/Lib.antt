@@ -4,3 +4,4 @@ pub mod Standard
 pub mod Limits
 pub mod Answer
 pub mod Finding
+pub mod Checks

@@ -1,5 +1,5 @@
 -- The name of each part, how long it may be, and which refusal says that it is longer.
-use Rattle.std.specs.Prelude.{ℕ, cond, List, length, Err, Result, nat_lt, codes}
+use Rattle.std.specs.Prelude.{ℕ, if◌then◌else◌, List, length, Err, Result, nat_lt, codes}
 use Rattle.refusal.specs.declared.Refusal.{Refusal}
 use Rattle.refusal.specs.declared.Refusal.TheVariants.{HeaderTooLong, BodyTooLong}
 use Rattle.message.specs.declared.part.Part.{Part}
@@ -15,17 +15,18 @@ abbrev pub limit_of : Part → ℕ
 limit_of Header = header_limit
 limit_of Body = body_limit
 
-abbrev pub refusal_of_part : Part → Refusal
-refusal_of_part Header = HeaderTooLong
-refusal_of_part Body = BodyTooLong
+abbrev pub part_refusal : Part → Refusal
+part_refusal Header = HeaderTooLong
+part_refusal Body = BodyTooLong
 
-abbrev pub name_of : Part → List ℕ
-name_of Header = codes "header"
-name_of Body = codes "body"
+abbrev pub part_name : Part → List ℕ
+part_name Header = codes "header"
+part_name Body = codes "body"
 
 -- an answer for one part within its limit
 abbrev pub within_limit : {X : Type 0} → Part → List ℕ → Result X Refusal → Result X Refusal
-within_limit part bytes answer = cond (nat_lt (limit_of part) (length bytes)) (Err (refusal_of_part part)) answer
+within_limit part bytes answer =
+    if nat_lt (limit_of part) (length bytes) then Err (part_refusal part) else answer
 
 -- an answer for parts within their limits; the header's limit is looked at first
 abbrev pub within_limits : {X : Type 0} → List ℕ → List ℕ → Result X Refusal → Result X Refusal

@@ -1,7 +1,9 @@
 -- The hash and the tag in the words of NIST SP 800-38D, over strings of bits. A bit is 0 or 1, and the leftmost comes first.
 use Rattle.std.specs.Prelude.{◌≡◌, ℕ, zero, suc, ◌+◌, ◌-◌, ◌*◌, ◌/◌, List, [], ◌∷◌, ◌++◌, length, take, drop, replicate, bit_xor}
 use Rattle.field.specs.Digits.{digits}
-use Rattle.field.specs.declared.kinds.Block.{Block}
+use Rattle.field.specs.declared.block.Block.{Block}
+use Rattle.message.specs.declared.digest.Digest.{Digest}
+use Rattle.message.specs.declared.digest.Pad.{Pad}
 
 -- [x]s, the number x as a string of s bits
 abbrev pub bits : ℕ → ℕ → List ℕ
@@ -64,18 +66,23 @@ unfoldable pub ghash : List ℕ → List ℕ → List ℕ
 ghash h s = ghash_from h (zeros 128) (length s / 128) s
 
 -- A ‖ 0^v, the least v that fills up to a multiple of 128
-abbrev pub padded : List ℕ → List ℕ
-padded a = a ++ zeros (128 * ((length a + 127) / 128) - length a)
+abbrev pub padded_string : List ℕ → List ℕ
+padded_string a = a ++ zeros (128 * ((length a + 127) / 128) - length a)
 
 -- A ‖ 0^v ‖ C ‖ 0^u ‖ [len(A)]64 ‖ [len(C)]64
 unfoldable pub message : List ℕ → List ℕ → List ℕ
-message a c = padded a ++ (padded c ++ (bits 64 (length a) ++ bits 64 (length c)))
+message a c = padded_string a ++ (padded_string c ++ (bits 64 (length a) ++ bits 64 (length c)))
 
 -- a block as a string
 abbrev pub block_string : Block → List ℕ
 block_string b = bits 128 b.bits
 
--- A hash and a tag are those of the standard, for this subkey, pad, header and body.
-pub record MeetsStandard (subkey pad : Block) (header body : List ℕ) (hash tag : Block) : Type 0 where
-  pub hashed : block_string hash ≡ ghash (block_string subkey) (message (string header) (string body))
-  pub tagged : block_string tag ≡ xor (ghash (block_string subkey) (message (string header) (string body))) (block_string pad)
+-- Hash and tag are those of the standard, for this subkey, pad, header and body.
+pub record MeetsStandard (subkey : Block) (pad : Pad) (header body : List ℕ)
+    (digest : Digest) : Type 0 where
+  -- S = GHASH_H(A ‖ 0^v ‖ C ‖ 0^u ‖ [len(A)]64 ‖ [len(C)]64)
+  pub hashed : block_string digest.hash
+      ≡ ghash (block_string subkey) (message (string header) (string body))
+  -- T = S ⊕ CIPH_K(J0), all 128 bits of it; the pad is CIPH_K(J0)
+  pub tagged : block_string digest.tag.0
+      ≡ xor (ghash (block_string subkey) (message (string header) (string body))) (block_string pad.0)

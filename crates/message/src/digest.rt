@@ -1,48 +1,50 @@
-// The hash and tag of a whole message.
-ghost use Rattle.std.specs.Prelude.{◌≡◌, length, IfOk};
-ghost use Rattle.message.specs.Answer.{answer};
-ghost use Rattle.message.specs.Blocks.{block_list};
-ghost use Rattle.message.specs.Standard.{MeetsStandard};
+// Hash and tag of a message, and the pad that makes the one into the other.
+//
+// Subkey, pad, hash and tag are 16 bytes each, and none may be taken for another: a pad at the place of the subkey, or a hash sent where
+// the tag belongs, may give the subkey away. So pad and tag have types of their own. The subkey stays a block, since whatever is made
+// from it looks at it.
+ghost use Rattle.std.specs.Prelude.{◌≡◌};
+ghost use Rattle.field.specs.Bytes.{bytes_of};
 
-use crate::absorb::{absorb_part, block_of_byte_counts, blocks_in};
-use crate::part::Message;
 use field::{Block, Element};
-use refusal::Refusal;
 
-// What a message hashes to.
+/// The enciphered pre-counter block, CIPH_K(J0) in NIST SP 800-38D, section 7.1: added to a hash it makes the tag. It serves one
+/// message alone.
 #[derive(Clone, Copy, PartialEq, Eq, Debug)]
-pub struct Digest {
-    pub hash: Block,
-    // The hash and the pad, added.
-    pub tag: Block,
-    // How many blocks were hashed, the length block too.
-    pub blocks: u64,
+pub struct Pad(pub Block);
+
+/// The tag of a message: its hash with the pad added (NIST SP 800-38D, section 7.1). It may be sent, where the hash is secret.
+#[derive(Clone, Copy, PartialEq, Eq, Debug)]
+pub struct Tag(pub Block);
+
+impl Tag {
+    /// The 16 bytes of the tag, in the order in which they are sent.
+    pub fn to_bytes(self) -> [u8; 16]
+        ensures { result ≡ bytes_of self.0 }
+    {
+        self.0.to_bytes()
+    }
 }
 
-impl Message<'_> {
-    // How many blocks are hashed, the length block too.
-    #[tactic(auto, using(crate::proofs::Cutting::length_block_list))]
-    pub fn count_blocks(self) -> u64
-        ensures { result ≡ length (block_list self.entry.header.now self.entry.body.now) }
-    {
-        blocks_in(self.header) as u64 + blocks_in(self.body) as u64 + 1
-    }
+/// What a message comes to under a subkey and a pad.
+#[derive(Clone, Copy, PartialEq, Eq, Debug)]
+pub struct Digest {
+    /// The GHASH of the block list. Together with the message it is an equation in the subkey: it is kept secret.
+    pub hash: Block,
+    /// The hash with the pad added, which goes with the message.
+    pub tag: Tag,
+}
 
-    // The hash at the subkey, and the tag under the pad, which is for one message alone where the subkey is for many: the standard's
-    // recursion itself, to which the calls over an engine are compared.
-    pub fn hash_and_tag(self, subkey: Block, pad: Block) -> Result<Digest, Refusal>
-        ensures value { result ≡ answer subkey pad self.entry.header.now self.entry.body.now }
-        ensures standard { IfOk result (λ d. MeetsStandard subkey pad self.entry.header.now self.entry.body.now d.hash d.tag) }
+impl Digest {
+    ghost use Rattle.message.specs.Answer.{digest_under};
+
+    /// A hash, and the tag that it makes under a pad.
+    pub fn new(hash: Block, pad: Pad) -> Digest
+        ensures { result ≡ digest_under pad hash }
     {
-        self.check_lengths()?;
-        let after_header = absorb_part(subkey, Block::zero(), self.header);
-        let after_body = absorb_part(subkey, after_header, self.body);
-        let lengths = block_of_byte_counts(self.header.len() as u64, self.body.len() as u64);
-        let hash = after_body.absorb(lengths, subkey);
-        Ok(Digest {
+        Digest {
             hash,
-            tag: hash.plus(pad),
-            blocks: self.count_blocks(),
-        })
+            tag: Tag(hash + pad.0),
+        }
     }
 }

@@ -1,12 +1,14 @@
 // A header and a body as blocks, and their hash and tag.
 #![tactic(auto)]
 
-mod absorb;
+mod blocks;
 mod digest;
-mod finder;
+mod found;
+mod message;
 mod part;
 
-pub use absorb::{block_of, block_of_byte_counts};
-pub use digest::Digest;
-pub use finder::Found;
-pub use part::{Message, Part};
+pub use blocks::{block_of, block_of_byte_counts};
+pub use digest::{Digest, Pad, Tag};
+pub use found::Found;
+pub use message::{CheckedMessage, Message};
+pub use part::Part;

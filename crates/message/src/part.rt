@@ -1,24 +1,28 @@
-// A message, and its two parts, each with its limit.
-ghost use Rattle.std.specs.Prelude.{◌≡◌, IfOk, Some};
+// The two parts of a message, each with its limit.
+ghost use Rattle.std.specs.Prelude.{◌≡◌, Some};
 ghost use Rattle.message.specs.Blocks.{AreBytes};
-ghost use Rattle.message.specs.Limits.{limit_of, name_of, refusal_of_part, within_limit, within_limits};
+ghost use Rattle.message.specs.Limits.{limit_of, part_name, part_refusal, within_limit};
 
 use refusal::Refusal;
 use std::fmt;
 
-// The largest header and the largest body, in bytes.
+// The largest header that is taken, in bytes.
 const HEADER_LIMIT: u64 = 65_535;
 
+// The largest body, in bytes: NIST SP 800-38D allows 2^39 - 256 bits.
 const BODY_LIMIT: u64 = 68_719_476_704;
 
+/// One of the two parts of a message.
 #[derive(Clone, Copy, PartialEq, Eq, Debug)]
 pub enum Part {
+    /// What is hashed first, and never enciphered: the standard's additional authenticated data.
     Header,
+    /// What is hashed after it: the standard's ciphertext.
     Body,
 }
 
 impl Part {
-    // The most bytes that the part may have.
+    /// The most bytes that the part may have: 65,535 of a header, 68,719,476,704 of a body.
     pub fn limit(self) -> u64
         ensures { result ≡ limit_of self }
     {
@@ -28,9 +32,9 @@ impl Part {
         }
     }
 
-    // Named and no From, since a part may be refused for other causes too.
+    /// Why the part is refused where it is longer than its limit.
     pub fn too_long(self) -> Refusal
-        ensures { result ≡ refusal_of_part self }
+        ensures { result ≡ part_refusal self }
     {
         match self {
             Part::Header => Refusal::HeaderTooLong,
@@ -39,7 +43,7 @@ impl Part {
     }
 
     // Refuses a part over its limit.
-    fn check_length(self, bytes: &[u8]) -> Result<(), Refusal>
+    pub(crate) fn check_length(self, bytes: &[u8]) -> Result<(), Refusal>
         ensures answer { result ≡ within_limit self bytes.now (Ok tt) }
         ensures bytes { AreBytes bytes.now }
     {
@@ -50,32 +54,14 @@ impl Part {
     }
 }
 
+/// "header" or "body".
 impl fmt::Display for Part {
-    ghost output = { λ part. Some (name_of part) };
+    ghost output = { λ part. Some (part_name part) };
 
     fn fmt<W: fmt::Write>(&self, f: &mut fmt::Formatter<W>) -> fmt::Result {
         f.write_str(match self {
             Part::Header => "header",
             Part::Body => "body",
         })
-    }
-}
-
-// A header and a body, hashed together.
-#[derive(Clone, Copy)]
-pub struct Message<'a> {
-    pub header: &'a [u8],
-    pub body: &'a [u8],
-}
-
-impl Message<'_> {
-    // Refuses a header over its limit, and then a body over its limit. Both hold bytes, which a proof knows of a slice that is
-    // passed and not of one in a struct.
-    pub fn check_lengths(self) -> Result<(), Refusal>
-        ensures answer { result ≡ within_limits self.entry.header.now self.entry.body.now (Ok tt) }
-        ensures bytes { IfOk result (λ _. AreBytes self.entry.header.now × AreBytes self.entry.body.now) }
-    {
-        Part::Header.check_length(self.header)?;
-        Part::Body.check_length(self.body)
     }
 }

@@ -1,18 +1,18 @@
--- How the coefficients of a kind are tested, flipped and counted among the bits of a number.
-use Rattle.std.specs.Prelude.{◌≡◌, ℕ, zero, suc, ◌+◌, ◌-◌, ◌*◌, ◌/◌, ◌%◌, ◌^◌, ◌<◌, ◌≤◌, Bool, true, false, cond, not, Decides, MatchBool, ◌==◌, ◌≢◌, bit_and, bit_xor, nat_eq, refl}
+-- How the coefficients of a shape are tested, flipped and counted among the bits of a number.
+use Rattle.std.specs.Prelude.{◌≡◌, ℕ, zero, suc, ◌+◌, ◌-◌, ◌*◌, ◌/◌, ◌%◌, ◌^◌, ◌<◌, ◌≤◌, Bool, true, false, if◌then◌else◌, not, ◌==◌, bit_and, bit_xor, nat_eq, refl}
 use Rattle.std.proofs.Common.{sym, ap, ap₂, ◌∙◌, add_comm, div-one, mod-eq_of_lt, mod-lt, mul-div_cancel, one-mul, pow-suc, lt_of_lt_of_le, one-add, arith, pow_pos, shr-shr}
 use Rattle.std.proofs.Math.Nat.{div-eq_of_lt, mod-one, mul-mod_left}
-use borrow.Author.Tests.{clash, lt-ltb}
+use Rattle.std.proofs.lemmas.Bool.{lt-ltb}
 use Rattle.std.proofs.lemmas.Nat.{and_mask, xor_lt, ones_cat, mod-pow-add}
 use Rattle.std.specs.Int.Count.{ones}
 use Rattle.std.proofs.Math.Dec.{eqb-suc-suc, eqb-suc-zero, eqb-zero-suc}
 use Rattle.std.proofs.Math.Pow.{pow-lt, split}
-use Rattle.std.proofs.lemmas.Bool.Decides.{nat_tests, Decides-eqb, Decides-like}
-use Rattle.field.specs.Binary.{Kind}
-use Rattle.field.specs.Held.{Held, entered, value_below}
+use Rattle.std.proofs.lemmas.Bool.Decides.{nat_tests}
+use Rattle.field.specs.Binary.{FieldShape}
+use Rattle.field.specs.Residues.{Residues, value_below}
 use Rattle.field.specs.Orders.{bit_additive}
-use Rattle.polynomial.specs.Bits.{bit_in, flipped, ones_below}
-use Rattle.polynomial.specs.Coefficients.{Placed, same_ones}
+use Rattle.polynomial.specs.Bits.{bit_in, bits_after_flip, ones_below}
+use Rattle.polynomial.specs.Coefficients.{HasPlaces, same_ones}
 
 two : zero < 2
 two = omega arith
@@ -20,36 +20,36 @@ two = omega arith
 -- ---- one digit
 
 -- a power of two has its one digit in its place
-power_digit : (s t : ℕ) → 2 ^ t / 2 ^ s % 2 ≡ cond (s == t) 1 0
+power_digit : (s t : ℕ) → 2 ^ t / 2 ^ s % 2 ≡ (if s == t then 1 else 0)
 power_digit zero zero = refl
 power_digit zero (suc t) =
     ap (λ (n : ℕ). n % 2) (div-one (2 ^ suc t) ∙ pow-suc 2 t) ∙ mul-mod_left (2 ^ t) 2
-    ∙ ap (λ (b : Bool). cond b 1 0) (sym (eqb-zero-suc t))
+    ∙ ap (λ (b : Bool). if b then 1 else 0) (sym (eqb-zero-suc t))
 power_digit (suc s) zero =
     ap (λ (n : ℕ). n % 2) (div-eq_of_lt (pow-lt {i = zero} {j = suc s} (omega arith)))
-    ∙ ap (λ (b : Bool). cond b 1 0) (sym (eqb-suc-zero s))
+    ∙ ap (λ (b : Bool). if b then 1 else 0) (sym (eqb-suc-zero s))
 power_digit (suc s) (suc t) =
     ap (λ (n : ℕ). n % 2)
     (ap (λ (n : ℕ). 2 ^ suc t / 2 ^ n) (sym (one-add s)) ∙ sym (shr-shr (2 ^ suc t) 1 s)
     ∙ ap (λ (n : ℕ). n / 2 ^ s) (ap (λ (n : ℕ). n / 2) (pow-suc 2 t) ∙ mul-div_cancel (2 ^ t) two))
     ∙ power_digit s t
-    ∙ ap (λ (b : Bool). cond b 1 0) (sym (eqb-suc-suc s t))
+    ∙ ap (λ (b : Bool). if b then 1 else 0) (sym (eqb-suc-suc s t))
 
-turned : (d : ℕ) (b : Bool) → d < 2 → (bit_xor d (cond b 1 0) == 1) ≡ cond b (not (d == 1)) (d == 1)
-turned zero true h = refl
-turned zero false h = refl
-turned (suc zero) true h = refl
-turned (suc zero) false h = refl
-turned (suc (suc d)) b h = absurd (omega arith)
+bit_xor-flip : (d : ℕ) (b : Bool) → d < 2 → (bit_xor d (if b then 1 else 0) == 1) ≡ (if b then not (d == 1) else d == 1)
+bit_xor-flip zero true h = refl
+bit_xor-flip zero false h = refl
+bit_xor-flip (suc zero) true h = refl
+bit_xor-flip (suc zero) false h = refl
+bit_xor-flip (suc (suc d)) b h = absurd (omega arith)
 
--- adding 2 ^ t turns the digit in place t and no other
-turned_digit : (a s t : ℕ)
-    → (bit_xor a (2 ^ t) / 2 ^ s % 2 == 1) ≡ cond (s == t) (not (a / 2 ^ s % 2 == 1)) (a / 2 ^ s % 2 == 1)
-turned_digit a s t =
+-- adding 2 ^ t changes the digit in place t and no other
+digit-flip : (a s t : ℕ)
+    → (bit_xor a (2 ^ t) / 2 ^ s % 2 == 1) ≡ (if s == t then not (a / 2 ^ s % 2 == 1) else a / 2 ^ s % 2 == 1)
+digit-flip a s t =
     ap (λ (n : ℕ). nat_eq n 1) (bit_additive s a (2 ^ t) ∙ ap (bit_xor (a / 2 ^ s % 2)) (power_digit s t))
-    ∙ turned (a / 2 ^ s % 2) (s == t) (mod-lt (a / 2 ^ s) two)
+    ∙ bit_xor-flip (a / 2 ^ s % 2) (s == t) (mod-lt (a / 2 ^ s) two)
 
-one_digit : (d : ℕ) → d < 2 → cond (d == 1) 1 0 ≡ ones d
+one_digit : (d : ℕ) → d < 2 → (if d == 1 then 1 else 0) ≡ ones d
 unfolding ones
 one_digit zero h = refl
 one_digit (suc zero) h = refl
@@ -57,14 +57,14 @@ one_digit (suc (suc d)) h = absurd (omega arith)
 
 -- ---- counts
 
-at_most_one : (b : Bool) → cond b 1 0 ≤ 1
+at_most_one : (b : Bool) → (if b then 1 else 0) ≤ 1
 at_most_one true = omega arith
 at_most_one false = omega arith
 
 pub ones_at_most : (n : ℕ) (f : ℕ → Bool) → ones_below n f ≤ n
 unfolding ones_below
 ones_at_most zero f = omega arith
-ones_at_most (suc n) f = let last : cond (f n) 1 0 ≤ 1 = at_most_one (f n) in omega (arith, ones_at_most n f, last)
+ones_at_most (suc n) f = let last : (if f n then 1 else 0) ≤ 1 = at_most_one (f n) in omega (arith, ones_at_most n f, last)
 
 ones_low : (n v : ℕ) → ones_below n (λ s. nat_eq (v / 2 ^ s % 2) 1) ≡ ones (v % 2 ^ n)
 unfolding ones_below ones
@@ -86,56 +86,44 @@ ones_parts k v u w mask e e' low =
 -- ---- the coefficients of an element
 
 -- an element whose number has its coefficients in their places
-module _ {V : Type 0} {kind : Kind} (placed : Placed kind) (held : Held V (2 ^ kind.width)) (x : V) where
+module _ {V : Type 0} {shape : FieldShape} (placed : HasPlaces shape) (residues : Residues V (2 ^ shape.width)) (x : V) where
   abbrev number : ℕ
-  number = held.value x
+  number = residues.value x
 
-  bit_digit : (k : ℕ) → k < kind.width → bit_in kind number k ≡ (number / 2 ^ placed.place k % 2 == 1)
+  bit_digit : (k : ℕ) → k < shape.width → bit_in shape number k ≡ (number / 2 ^ placed.place k % 2 == 1)
   bit_digit k h =
-      ap (λ (b : Bool). cond b (kind.digit number k == 1) false) (lt-ltb k kind.width h)
+      ap (λ (b : Bool). if b then shape.digit number k == 1 else false) (lt-ltb k shape.width h)
       ∙ ap (λ (d : ℕ). nat_eq d 1) (placed.digit number k)
 
   -- the test of one bit
-  pub tested : (k u t : ℕ) → k < kind.width → u ≡ number → t ≡ placed.place k → (bit_and (u / 2 ^ t) 1 == 1) ≡ bit_in kind number k
-  tested k u t h e e' =
+  pub bit_in-test : (k u t : ℕ) → k < shape.width → u ≡ number → t ≡ placed.place k
+      → (bit_and (u / 2 ^ t) 1 == 1) ≡ bit_in shape number k
+  bit_in-test k u t h e e' =
       ap (λ (n : ℕ). nat_eq n 1) (and_mask (u / 2 ^ t) 1 ∙ ap₂ (λ (n s : ℕ). n / 2 ^ s % 2) e e') ∙ sym (bit_digit k h)
 
   -- the flip of one bit
-  pub flips : (y : V) (k u t room : ℕ) → y ≡ held.enter (bit_xor u (1 * 2 ^ t % 2 ^ room)) → kind.width ≤ room
-      → k < kind.width → u ≡ number → t ≡ placed.place k
-      → (j : ℕ) → bit_in kind (held.value y) j ≡ flipped kind.width (bit_in kind number) k j
-  flips y k u t room made wide h e e' j =
+  pub bit_in-flip : (y : V) (k u t room : ℕ) → y ≡ residues.enter (bit_xor u (1 * 2 ^ t % 2 ^ room)) → shape.width ≤ room
+      → k < shape.width → u ≡ number → t ≡ placed.place k
+      → (j : ℕ) → bit_in shape (residues.value y) j ≡ bits_after_flip shape.width (bit_in shape number) k j
+  bit_in-flip y k u t room made wide h e e' j =
       let place : ℕ = placed.place k in
       let one : 1 * 2 ^ t % 2 ^ room ≡ 2 ^ place =
       ap (λ (s : ℕ). 1 * 2 ^ s % 2 ^ room) e' ∙ ap (λ (n : ℕ). n % 2 ^ room) (one-mul (2 ^ place))
       ∙ mod-eq_of_lt (pow-lt (lt_of_lt_of_le (placed.within k h) wide)) in
-      let whole : held.value y ≡ bit_xor number (2 ^ place) =
-      ap held.value (made ∙ ap₂ (λ (m n : ℕ). held.enter (bit_xor m n)) e one)
-      ∙ value_below held (bit_xor number (2 ^ place)) (xor_lt kind.width number (2 ^ place) (held.fits x) (pow-lt (placed.within k h))) in
-      let after : kind.digit (held.value y) j ≡ bit_xor number (2 ^ place) / 2 ^ placed.place j % 2 =
-      placed.digit (held.value y) j ∙ ap (λ (n : ℕ). n / 2 ^ placed.place j % 2) whole in
+      let whole : residues.value y ≡ bit_xor number (2 ^ place) =
+      ap residues.value (made ∙ ap₂ (λ (m n : ℕ). residues.enter (bit_xor m n)) e one)
+      ∙ value_below residues (bit_xor number (2 ^ place))
+      (xor_lt shape.width number (2 ^ place) (residues.fits x) (pow-lt (placed.within k h))) in
+      let after : shape.digit (residues.value y) j ≡ bit_xor number (2 ^ place) / 2 ^ placed.place j % 2 =
+      placed.digit (residues.value y) j ∙ ap (λ (n : ℕ). n / 2 ^ placed.place j % 2) whole in
       let before = placed.digit number j in
-      let turn = turned_digit number (placed.place j) place in
+      let turn = digit-flip number (placed.place j) place in
       let apart = placed.apart j k in
       grind (arith, nat_tests)
 
   -- the count of the ones
-  pub weighed : (w : ℕ) → w ≡ ones number → w ≡ ones_below kind.width (bit_in kind number)
-  weighed w e =
-      e ∙ ap ones (sym (mod-eq_of_lt (held.fits x))) ∙ sym (ones_low kind.width number)
+  pub ones_below-count : (w : ℕ) → w ≡ ones number → w ≡ ones_below shape.width (bit_in shape number)
+  ones_below-count w e =
+      e ∙ ap ones (sym (mod-eq_of_lt (residues.fits x))) ∙ sym (ones_low shape.width number)
       ∙ sym (placed.every (λ s. nat_eq (number / 2 ^ s % 2) 1))
-      ∙ sym (same_ones kind.width (bit_in kind number) (λ k. nat_eq (number / 2 ^ placed.place k % 2) 1) bit_digit)
-
--- ---- the test for zero
-
-decided : {P : Type 0} (r : Bool) → Decides r P → MatchBool r P (P → ⊥)
-decided true d = d.0 refl
-decided false d = λ p. clash (d.1 p)
-
-pub zero_tested : {V : Type 0} {limit : ℕ} (held : Held V limit) (x : V) (u z : ℕ) → u ≡ held.value x → z ≡ zero
-    → MatchBool (u == z) (x ≡ held.enter zero) (x ≢ held.enter zero)
-zero_tested held x u z e e' =
-    decided (u == z)
-    (Decides-like (u == z) (λ same. entered held x zero (sym e ∙ same ∙ e'))
-    (λ same. e ∙ ap held.value same ∙ value_below held zero (omega (arith, held.fits x)) ∙ sym e')
-    (Decides-eqb u z))
+      ∙ sym (same_ones shape.width (bit_in shape number) (λ k. nat_eq (number / 2 ^ placed.place k % 2) 1) bit_digit)

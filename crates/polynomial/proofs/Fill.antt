@@ -1,6 +1,6 @@
 -- A list that is written from its front.
 use Rattle.std.proofs.Common.{◌≡◌, ℕ, suc, ◌+◌, ◌<◌, List, [], ◌∷◌, ◌++◌, length, drop, set, sym, ap, ◌∙◌, append_assoc, add-one, drop-cons}
-use lib.Seq.{set_at}
+use Rattle.std.proofs.lemmas.List.{set_at}
 
 -- one element more after those that are written
 pub fill_more : {X : Type 0} (old front : List X) (n : ℕ) (v : X) → n < length old → length front ≡ n →

@@ -4,4 +4,3 @@ pub mod Conjugates
 pub mod Fill
 pub mod Reading
 pub mod Made
-pub mod Raising

@@ -3,16 +3,17 @@ use Rattle.std.proofs.Common.{◌≡◌, ℕ, ◌+◌, ◌<◌, ◌≤◌, Bool,
 use Rattle.std.proofs.lemmas.Bool.{cond-true, cond-false, eq-eqb, ne_eqb, lt-ltb}
 use Rattle.field.specs.Ring.{CommutativeRing}
 use Rattle.field.specs.declared.element.Element.{Ghosts}
-use Rattle.polynomial.specs.Bits.{flipped}
+use Rattle.polynomial.specs.Bits.{bits_after_flip}
 use Rattle.polynomial.specs.Polynomials.{element}
 
-pub flip_other : (width : ℕ) (bits : ℕ → Bool) (k j : ℕ) → j ≢ k → flipped width bits k j ≡ bits j
+flip_other : (width : ℕ) (bits : ℕ → Bool) (k j : ℕ) → j ≢ k → bits_after_flip width bits k j ≡ bits j
 flip_other width bits k j apart = cond-false _ _ _ (ne_eqb j k apart)
 
-pub flip_same : (width : ℕ) (bits : ℕ → Bool) (k : ℕ) → k < width → flipped width bits k k ≡ not (bits k)
+flip_same : (width : ℕ) (bits : ℕ → Bool) (k : ℕ) → k < width → bits_after_flip width bits k k ≡ not (bits k)
 flip_same width bits k below = cond-true _ _ _ (eq-eqb k k refl) ∙ cond-true _ _ _ (lt-ltb k width below)
 
-module _ {K : Type 0} (m : Ghosts K) (laws : CommutativeRing m.zero m.one m.sum m.product) (even : (x : K) → m.sum x x ≡ m.zero) where
+module _ {K : Type 0} (m : Ghosts K) (laws : CommutativeRing m.zero m.one m.sum m.product)
+    (even : (x : K) → m.sum x x ≡ m.zero) where
   -- plus one is zero exactly at one
   pub one_from_sum : (x : K) → m.sum x m.one ≡ m.zero → x ≡ m.one
   one_from_sum x e =
@@ -39,7 +40,7 @@ module _ {K : Type 0} (m : Ghosts K) (laws : CommutativeRing m.zero m.one m.sum 
       )
 
   pub read_one : (xs : List K) (width k : ℕ) (bits after : ℕ → Bool) → k < width → ReadTo xs k bits → get_or xs k m.zero ≡ m.one
-      → ((j : ℕ) → after j ≡ flipped width bits k j) → ReadTo xs (k + 1) after
+      → ((j : ℕ) → after j ≡ bits_after_flip width bits k j) → ReadTo xs (k + 1) after
   read_one xs width k bits after below so_far here flips =
       let from : k ≤ k = omega arith in
       let other : (j : ℕ) → j ≢ k → after j ≡ bits j = λ j apart. flips j ∙ flip_other width bits k j apart in

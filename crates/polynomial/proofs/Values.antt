@@ -1,12 +1,13 @@
 -- Values of polynomials at a point, from the laws of a commutative ring.
-use Rattle.std.proofs.Common.{◌≡◌, ℕ, zero, suc, ◌+◌, ◌^◌, Bool, true, false, cond, List, [], ◌∷◌, ◌++◌, map, filter, fold, length, sym, ap, ◌∙◌, ap₂, add-zero, add-suc, suc-add, zero-add}
+use Rattle.std.proofs.Common.{◌≡◌, ℕ, zero, suc, ◌+◌, ◌^◌, Bool, true, false, if◌then◌else◌, List, [], ◌∷◌, ◌++◌, map, filter, fold, length, sym, ap, ◌∙◌, ap₂, add-zero, add-suc, suc-add, zero-add}
 use Rattle.std.specs.List.{range_with_len, enumerate_from}
-use Rattle.std.proofs.lemmas.List.FromFn.{length-map-range_with_len, map-range_with_len_more}
+use Rattle.std.proofs.lemmas.List.FromFn.{length-map-range_with_len}
 use Rattle.field.specs.Ring.{CommutativeRing}
 use Rattle.field.specs.Evaluation.{power}
 use Rattle.field.specs.declared.element.Element.{Ghosts}
 use Rattle.field.proofs.Horner.{zero_sum, sum_product, product_zero, zero_product}
-use Rattle.polynomial.specs.Polynomials.{value_from, value_at, element, stored, linear_from, times_linear, conjugates, factors_at}
+use Rattle.polynomial.specs.Polynomials.{value_from, value_at, element, coefficient_list, linear_from, times_linear, conjugates, factors_at, lower_value, proposal_value}
+use Rattle.polynomial.specs.Steps.{power_list}
 
 module _ {K : Type 0} (m : Ghosts K) (laws : CommutativeRing m.zero m.one m.sum m.product) where
   pub one_product : (x : K) → m.product m.one x ≡ x
@@ -31,8 +32,23 @@ module _ {K : Type 0} (m : Ghosts K) (laws : CommutativeRing m.zero m.one m.sum 
   value_push r j (d ∷ cs) c =
       ap (m.sum (m.product d (power m r j)))
       (value_push r (suc j) cs c
-      ∙ ap (λ n. m.sum (value_from m r (suc j) cs) (m.product c (power m r n))) (suc-add j (length cs) ∙ sym (add-suc j (length cs))))
+      ∙ ap (λ n. m.sum (value_from m r (suc j) cs) (m.product c (power m r n)))
+      (suc-add j (length cs) ∙ sym (add-suc j (length cs))))
       ∙ sym (laws.sum_assoc (m.product d (power m r j)) (value_from m r (suc j) cs) (m.product c (power m r (j + suc (length cs)))))
+
+  pub length-coefficient_list : (n : ℕ) (bits : ℕ → Bool) → length (coefficient_list m n bits) ≡ n
+  unfolding coefficient_list
+  length-coefficient_list n bits = length-map-range_with_len (λ k. element m (bits k)) 0 n
+
+  -- the stored coefficients and a one after them are those of the whole polynomial
+  pub value_at-proposal : (r : K) (n : ℕ) (bits : ℕ → Bool)
+      → value_at m r (coefficient_list m n bits ++ (m.one ∷ [])) ≡ proposal_value m n bits r
+  value_at-proposal r n bits =
+      let cs : List K = coefficient_list m n bits in
+      let long : 0 + length cs ≡ n = zero-add (length cs) ∙ length-coefficient_list n bits in
+      value_push r 0 cs m.one
+      ∙ ap (m.sum (value_at m r cs)) (one_product (power m r (0 + length cs)) ∙ ap (power m r) long)
+      ∙ laws.sum_comm (value_at m r cs) (power m r n)
 
   -- t + z times a polynomial has r + z times its value
   linear_value : (r z : K) (j : ℕ) (b : K) (cs : List K)
@@ -73,41 +89,33 @@ module _ {K : Type 0} (m : Ghosts K) (laws : CommutativeRing m.zero m.one m.sum 
   factors_vanish even r zero =
       laws.product_one (m.sum r (power m r 1)) ∙ ap (m.sum r) (laws.product_one r) ∙ even r
   factors_vanish even r (suc n) =
-      ap (m.product (m.sum r (power m r (2 ^ suc n)))) (factors_vanish even r n) ∙ product_zero m laws (m.sum r (power m r (2 ^ suc n)))
+      let factor : K = m.sum r (power m r (2 ^ suc n)) in
+      ap (m.product factor) (factors_vanish even r n) ∙ product_zero m laws factor
 
-  chosen : (b : Bool) (p : K) → m.product (element m b) p ≡ cond b p m.zero
-  chosen true p = one_product p
-  chosen false p = zero_product m laws p
-
-  -- a proposal's value, one coefficient more
-  pub stored_more : (bits : ℕ → Bool) (r : K) (k : ℕ)
-      → value_at m r (stored m (k + 1) bits) ≡ m.sum (value_at m r (stored m k bits)) (cond (bits k) (power m r k) m.zero)
-  unfolding stored
-  stored_more bits r k =
-      let f : ℕ → K = λ n. element m (bits n) in
-      ap (value_at m r) (map-range_with_len_more f 0 k k (zero-add k))
-      ∙ value_push r 0 (map f (range_with_len 0 k)) (f k)
-      ∙ ap (λ n. m.sum (value_at m r (map f (range_with_len 0 k))) (m.product (f k) (power m r n))) (zero-add (length (map f (range_with_len 0 k))) ∙ length-map-range_with_len f 0 k)
-      ∙ ap (m.sum (value_at m r (map f (range_with_len 0 k)))) (chosen (bits k) (power m r k))
+  product-element : (b : Bool) (p : K) → m.product (element m b) p ≡ (if b then p else m.zero)
+  product-element true p = one_product p
+  product-element false p = zero_product m laws p
 
   -- one power more, taken only where its bit is one
-  taken : (b : Bool) (p s v : K) (k : ℕ) (rest : List (ℕ × K)) → ((t : K) → fold (λ t x. m.sum t x.1) t rest ≡ m.sum t v)
-      → fold (λ t x. m.sum t x.1) s (cond b ((k, p) ∷ rest) rest) ≡ m.sum s (m.sum (m.product (element m b) p) v)
-  taken true p s v k rest more = more (m.sum s p) ∙ laws.sum_assoc s p v ∙ ap (λ q. m.sum s (m.sum q v)) (sym (chosen true p))
-  taken false p s v k rest more = more s ∙ ap (m.sum s) (sym (zero_sum m laws v)) ∙ ap (λ q. m.sum s (m.sum q v)) (sym (chosen false p))
+  fold-bit : (b : Bool) (p s v : K) (k : ℕ) (rest : List (ℕ × K)) → ((t : K) → fold (λ t x. m.sum t x.1) t rest ≡ m.sum t v)
+      → fold (λ t x. m.sum t x.1) s (if b then (k, p) ∷ rest else rest) ≡ m.sum s (m.sum (m.product (element m b) p) v)
+  fold-bit true p s v k rest more =
+      more (m.sum s p) ∙ laws.sum_assoc s p v ∙ ap (λ q. m.sum s (m.sum q v)) (sym (product-element true p))
+  fold-bit false p s v k rest more =
+      more s ∙ ap (m.sum s) (sym (zero_sum m laws v)) ∙ ap (λ q. m.sum s (m.sum q v)) (sym (product-element false p))
 
-  taken_from : (bits : ℕ → Bool) (r : K) (n j : ℕ) (s : K)
+  fold-filter_bits : (bits : ℕ → Bool) (r : K) (n j : ℕ) (s : K)
       → fold (λ t x. m.sum t x.1) s (filter (λ x. bits x.0) (enumerate_from j (map (power m r) (range_with_len j n))))
       ≡ m.sum s (value_from m r j (map (λ k. element m (bits k)) (range_with_len j n)))
-  taken_from bits r zero j s = sym (laws.sum_zero s)
-  taken_from bits r (suc n) j s =
+  fold-filter_bits bits r zero j s = sym (laws.sum_zero s)
+  fold-filter_bits bits r (suc n) j s =
       let cs : List K = map (λ k. element m (bits k)) (range_with_len (j + 1) n) in
-      taken (bits j) (power m r j) s (value_from m r (suc j) cs) j
+      fold-bit (bits j) (power m r j) s (value_from m r (suc j) cs) j
       (filter (λ x. bits x.0) (enumerate_from (j + 1) (map (power m r) (range_with_len (j + 1) n))))
-      (λ t. taken_from bits r n (j + 1) t ∙ ap (λ i. m.sum t (value_from m r i cs)) (add-suc j 0 ∙ ap suc (add-zero j)))
+      (λ t. fold-filter_bits bits r n (j + 1) t ∙ ap (λ i. m.sum t (value_from m r i cs)) (add-suc j 0 ∙ ap suc (add-zero j)))
 
   -- a proposal's value is the sum of the powers where it has a one
-  pub stored_value : (bits : ℕ → Bool) (r : K) (n : ℕ)
-      → fold (λ t x. m.sum t x.1) m.zero (filter (λ x. bits x.0) (enumerate_from 0 (map (power m r) (range_with_len 0 n)))) ≡ value_at m r (stored m n bits)
-  unfolding stored
-  stored_value bits r n = taken_from bits r n 0 m.zero ∙ zero_sum m laws (value_at m r (stored m n bits))
+  pub coefficients_value : (bits : ℕ → Bool) (r : K) (n : ℕ)
+      → fold (λ t x. m.sum t x.1) m.zero (filter (λ x. bits x.0) (enumerate_from 0 (power_list m r n))) ≡ lower_value m n bits r
+  unfolding coefficient_list
+  coefficients_value bits r n = fold-filter_bits bits r n 0 m.zero ∙ zero_sum m laws (value_at m r (coefficient_list m n bits))

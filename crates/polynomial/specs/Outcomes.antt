@@ -1,41 +1,51 @@
 -- What the trial and the maker answer, and what they leave in the scratch.
-use Rattle.std.specs.Prelude.{◌≡◌, ℕ, ◌<◌, ◌≤◌, Bool, cond, ◌⊎◌, List, [], ◌∷◌, ◌++◌, length, Ok, Err, Result, nat_lt}
+use Rattle.std.specs.Prelude.{◌≡◌, ℕ, ◌<◌, ◌≤◌, if◌then◌else◌, ◌⊎◌, List, [], ◌∷◌, ◌++◌, length, Ok, Err, Result, nat_lt}
 use Rattle.field.specs.declared.element.Element.{Ghosts}
 use Rattle.refusal.specs.declared.Refusal.{Refusal}
 use Rattle.refusal.specs.declared.Refusal.TheVariants.{DoesNotAnnihilate, NotBinary, ScratchTooShort}
 use Rattle.polynomial.specs.Bits.{ones_below}
-use Rattle.polynomial.specs.Polynomials.{stored, Annihilates, conjugates, SomeNeither, wiped}
+use Rattle.polynomial.specs.Polynomials.{coefficient_list, Annihilates, conjugates, SomeNeither, zeroed_scratch}
 use Rattle.polynomial.specs.declared.accepted.Accepted.{Accepted}
 use Rattle.polynomial.specs.declared.binary.Binary as binary
 use Rattle.polynomial.specs.declared.trial.Trial.{Trial}
 
 -- A scratch with room has its first elements zeroed; a shorter one is not touched.
 abbrev pub scratch_after : {K : Type 0} → Ghosts K → ℕ → List K → List K
-scratch_after m width scratch = cond (nat_lt (length scratch) width) scratch (wiped m width scratch)
-
-module _ {K : Type 0} (m : Ghosts K) (width : ℕ) (room : ℕ) where
-  -- Refused for want of room, whatever else; else for this cause.
-  abbrev pub Refused : Refusal → Refusal → Type 0 → Type 0
-  Refused refusal named cause =
-      ((refusal ≡ ScratchTooShort) × (room < width)) ⊎ ((refusal ≡ named) × (width ≤ room) × cause)
-
-  -- The maker answers the product of the conjugate factors, whose highest coefficient is not stored, exactly when
-  -- there is room and every coefficient is zero or one.
-  abbrev pub Made : (K → ℕ → Bool) → K → Result K Refusal → Type 0
-  Made bits subkey (Ok proposal) = (width ≤ room) × (stored m width (bits proposal) ++ (m.one ∷ []) ≡ conjugates m subkey width)
-  Made bits subkey (Err refusal) = Refused refusal NotBinary (SomeNeither m (conjugates m subkey width))
+scratch_after m width scratch =
+    if nat_lt (length scratch) width then scratch else zeroed_scratch m width scratch
 
 module _ {K : Type 0} (b : binary.Ghosts K) (m : Ghosts K) (room : ℕ) (subkey : K) where
-  -- Accepted is this proposal, for this subkey, with its ones counted; refused exactly for want of room or where it does not annihilate.
-  abbrev pub PolynomialTried : K → Result (Trial K b m) Refusal → Type 0
-  PolynomialTried proposal (Ok trial) =
-      (b.width ≤ room) × Annihilates m b.width (b.bits proposal) subkey
-      × (trial.polynomial.subkey ≡ subkey) × (trial.polynomial.coefficients ≡ proposal)
-      × (trial.weight ≡ ones_below b.width (b.bits proposal))
-  PolynomialTried proposal (Err refusal) =
-      Refused m b.width room refusal DoesNotAnnihilate (Annihilates m b.width (b.bits proposal) subkey → ⊥)
+  -- refused for want of room, whatever else; else for this cause, under its own name
+  abbrev pub IsRefusedFor : Refusal → Refusal → Type 0 → Type 0
+  IsRefusedFor refusal named cause =
+      ((refusal ≡ ScratchTooShort) × (room < b.width))
+      ⊎ ((refusal ≡ named) × (b.width ≤ room) × cause)
+
+  -- The trial accepts this proposal for this subkey.
+  pub record Accepts (proposal : K) (trial : Trial K b m) : Type 0 where
+    pub has_room : b.width ≤ room
+    pub annihilates : Annihilates m b.width (b.bits proposal) subkey
+    pub same_subkey : trial.polynomial.subkey ≡ subkey
+    pub same_proposal : trial.polynomial.coefficients ≡ proposal
+    pub counted : trial.weight ≡ ones_below b.width (b.bits proposal)
+
+  -- accepted, or refused exactly for want of room or where the proposal does not annihilate the subkey
+  abbrev pub TriesProposal : K → Result (Trial K b m) Refusal → Type 0
+  TriesProposal proposal (Ok trial) = Accepts proposal trial
+  TriesProposal proposal (Err refusal) =
+      IsRefusedFor refusal DoesNotAnnihilate (Annihilates m b.width (b.bits proposal) subkey → ⊥)
+
+  -- This proposal is the product of the conjugate factors, whose highest coefficient, a one, is not stored.
+  pub record IsMade (proposal : K) : Type 0 where
+    pub has_room : b.width ≤ room
+    pub product : coefficient_list m b.width (b.bits proposal) ++ m.one ∷ [] ≡ conjugates m subkey b.width
+
+  -- made, or refused exactly for want of room or where some coefficient of the product is neither zero nor one
+  abbrev pub Makes : Result K Refusal → Type 0
+  Makes (Ok proposal) = IsMade proposal
+  Makes (Err refusal) = IsRefusedFor refusal NotBinary (SomeNeither m (conjugates m subkey b.width))
 
   -- the maker's polynomial, accepted for this subkey; refused as the maker refuses
-  abbrev pub AcceptedMade : Result (Accepted K b m) Refusal → Type 0
-  AcceptedMade (Ok accepted) = (accepted.subkey ≡ subkey) × Made m b.width room b.bits subkey (Ok accepted.coefficients)
-  AcceptedMade (Err refusal) = Made m b.width room b.bits subkey (Err refusal)
+  abbrev pub MakesAccepted : Result (Accepted K b m) Refusal → Type 0
+  MakesAccepted (Ok accepted) = (accepted.subkey ≡ subkey) × IsMade accepted.coefficients
+  MakesAccepted (Err refusal) = Makes (Err refusal)

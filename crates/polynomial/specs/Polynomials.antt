@@ -1,5 +1,5 @@
 -- Polynomials in t, as lists of coefficients, that of t^0 first.
-use Rattle.std.specs.Prelude.{◌≡◌, ℕ, zero, suc, ◌^◌, ◌<◌, Bool, cond, List, [], ◌∷◌, ◌++◌, map, length, drop, replicate, ◌≢◌, slice_index_or}
+use Rattle.std.specs.Prelude.{◌≡◌, ℕ, zero, suc, ◌^◌, ◌<◌, Bool, if◌then◌else◌, List, [], ◌∷◌, ◌++◌, map, length, drop, replicate, ◌≢◌, slice_index_or}
 use Rattle.std.specs.List.{range_with_len}
 use Rattle.field.specs.Evaluation.{power}
 use Rattle.field.specs.declared.element.Element.{Ghosts}
@@ -16,15 +16,23 @@ module _ {K : Type 0} (m : Ghosts K) where
 
   -- a bit as a coefficient
   abbrev pub element : Bool → K
-  element bit = cond bit m.one m.zero
+  element bit = if bit then m.one else m.zero
 
   -- the first n coefficients of a proposal
-  unfoldable pub stored : ℕ → (ℕ → Bool) → List K
-  stored n bits = map (λ k. element (bits k)) (range_with_len 0 n)
+  unfoldable pub coefficient_list : ℕ → (ℕ → Bool) → List K
+  coefficient_list n bits = map (λ k. element (bits k)) (range_with_len 0 n)
 
-  -- A proposal of n bits stands for t^n + the sum of all c_j·t^j; it annihilates r where that is zero at r.
+  -- the value at r of a proposal of n bits, but for its highest term
+  abbrev pub lower_value : ℕ → (ℕ → Bool) → K → K
+  lower_value n bits r = value_at r (coefficient_list n bits)
+
+  -- A proposal of n bits stands for t^n + the sum of all c_j·t^j. This is its value at r.
+  abbrev pub proposal_value : ℕ → (ℕ → Bool) → K → K
+  proposal_value n bits r = m.sum (power m r n) (lower_value n bits r)
+
+  -- a proposal annihilates r where its value there is zero
   abbrev pub Annihilates : ℕ → (ℕ → Bool) → K → Type 0
-  Annihilates n bits r = m.sum (power m r n) (value_at r (stored n bits)) ≡ m.zero
+  Annihilates n bits r = proposal_value n bits r ≡ m.zero
 
   -- t + z times a polynomial; `before` is the coefficient below the next one
   abbrev pub linear_from : K → K → List K → List K
@@ -44,10 +52,17 @@ module _ {K : Type 0} (m : Ghosts K) where
   factors_at point r zero = m.one
   factors_at point r (suc n) = m.product (m.sum point (power m r (2 ^ n))) (factors_at point r n)
 
+  -- at every point, the value of the product of the factors is the product of their values there
+  abbrev pub IsProductOfFactors : K → Type 0
+  IsProductOfFactors r = (point : K) (n : ℕ) → value_at point (conjugates r n) ≡ factors_at point r n
+
   -- some coefficient is neither zero nor one
   abbrev pub SomeNeither : List K → Type 0
-  SomeNeither cs = (k : ℕ) × (k < length cs) × (slice_index_or cs k m.zero ≢ m.zero) × (slice_index_or cs k m.zero ≢ m.one)
+  SomeNeither cs =
+      (k : ℕ) × (k < length cs)
+      × (slice_index_or cs k m.zero ≢ m.zero)
+      × (slice_index_or cs k m.zero ≢ m.one)
 
   -- a scratch whose first n elements are zero and whose others stay
-  abbrev pub wiped : ℕ → List K → List K
-  wiped n scratch = replicate n m.zero ++ drop n scratch
+  abbrev pub zeroed_scratch : ℕ → List K → List K
+  zeroed_scratch n scratch = replicate n m.zero ++ drop n scratch

@@ -1,39 +1,34 @@
-// Kinds of element whose coefficients are bits.
-ghost use Rattle.std.specs.Prelude.{◌≡◌, ℕ, ◌<◌, Bool, false, MatchBool, ◌≢◌};
-ghost use Rattle.polynomial.specs.Bits.{flipped, ones_below};
+// Kinds of element whose coefficients are bits, and so may stand for polynomials in t.
+ghost use Rattle.std.specs.Prelude.{◌≡◌, ℕ, Bool, MatchBool, ◌≢◌};
+ghost use Rattle.polynomial.specs.Bits.{BinaryLaws, bits_after_flip, ones_below};
 
 use field::Element;
 
+/// An element that is a row of bits, its coefficients. Each kind has its own order of them, in which it writes `bit` and `flip`.
 pub trait Binary: Element + Copy {
-    // How many coefficients an element has.
     ghost width: { ℕ };
 
-    // Whether a coefficient is one.
     ghost bits: { Self → ℕ → Bool };
 
+    /// How many coefficients an element has.
     fn width() -> usize
         ensures { result ≡ width };
 
-    // The coefficient of index k, false past the width. Each kind writes this and the next: its order of bits is its own.
+    /// Whether the coefficient of index k is one. Past the width there is none, and the answer is false.
     fn bit(self, k: usize) -> bool
         ensures { result ≡ bits self k };
 
-    // With the coefficient of index k changed; past the width nothing is.
+    /// The element with the coefficient of index k changed. Past the width it stays as it is.
     fn flip(self, k: usize) -> Self
-        ensures { (j : ℕ) → bits result j ≡ flipped width (bits self) k j };
+        ensures { (j : ℕ) → bits result j ≡ bits_after_flip width (bits self) k j };
 
-    // No default, nor has `weight`: it would ask every kind for equality and for its bits as a number.
+    /// Whether every coefficient is zero.
     fn is_zero(self) -> bool
         ensures { MatchBool result (self ≡ Self.Element.zero) (self ≢ Self.Element.zero) };
 
-    // How many coefficients are one.
+    /// How many coefficients are one.
     fn weight(self) -> u32
         ensures { result ≡ ones_below width (bits self) };
 
-    ghost wide: { 0 < width };
-
-    // Zero has no ones.
-    ghost blank: { (k : ℕ) → bits Self.Element.zero k ≡ false };
-
-    ghost even: { (x : Self) → Self.Element.sum x x ≡ Self.Element.zero };
+    ghost laws: { BinaryLaws Self.Element width bits };
 }

@@ -3,9 +3,9 @@
 
 mod accepted;
 mod binary;
-mod blocks;
+mod block;
 mod maker;
-mod nibbles;
+mod nibble;
 mod proposal;
 mod scratch;
 mod trial;

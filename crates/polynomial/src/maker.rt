@@ -1,21 +1,29 @@
-// The maker: the product of t + H^(2^i) over all i, which H annihilates.
-ghost use Rattle.std.specs.Prelude.{◌≡◌, ℕ, ◌+◌, ◌<◌, ◌≤◌, cond, List, [], ◌∷◌, ◌++◌, length, IfOk, MatchOption};
-ghost use Rattle.polynomial.specs.Outcomes.{AcceptedMade, Made, scratch_after};
-ghost use Rattle.polynomial.specs.Polynomials.{value_at, stored, Annihilates, conjugates, factors_at, SomeNeither};
-ghost use Rattle.polynomial.specs.Steps.{raised, lower};
+// The maker: the product of t + root over the conjugates of a subkey. These are root, root^2, root^4, .., each the square of the
+// one before, from the subkey on, as many as an element has coefficients. The subkey is one of them, so the product annihilates it.
+//
+// The product grows in the scratch, one factor a round. Its highest coefficient is always one and never stored. Multiplying by
+// t + root moves every coefficient one place up and adds root times what stood there, so one pass from the lowest with the last
+// value in hand does it in place. What is in hand at the end makes the coefficient of the next place.
+//
+// In a field of 2^width elements squaring permutes the conjugates, so that every coefficient of the product is its own square: zero
+// or one. The laws of a binary kind do not say that it is such a field, so the maker looks at each coefficient and refuses one that
+// is neither.
+ghost use Rattle.std.specs.Prelude.{◌≡◌, ◌≤◌, [], ◌∷◌, ◌++◌, length, IfOk};
+ghost use Rattle.polynomial.specs.Outcomes.{Makes, scratch_after};
+ghost use Rattle.polynomial.specs.Polynomials.{Annihilates, IsProductOfFactors};
+ghost use Rattle.polynomial.specs.Steps.{Reads, lower_conjugates, lower_times_linear};
 
-use crate::accepted::Accepted;
 use crate::binary::Binary;
 use crate::scratch::Scratch;
 use field::Element;
 use refusal::Refusal;
 
-// Multiplies by t + root, and answers the coefficient that is new. The highest, which is one, is not stored.
+// Multiplies by t + root in place, and answers the coefficient that goes into the next place.
 fn multiply<E: Element + Copy>(coefficients: &mut [E], root: E) -> E
-    ensures { coefficients.new ++ (result ∷ []) ≡ raised E.Element root E.Element.zero coefficients.old E.Element.one }
+    ensures { coefficients.new ++ result ∷ []
+        ≡ lower_times_linear E.Element root coefficients.old }
 {
     let mut below = E::zero();
-    // No fold: each step writes a coefficient, and hands on what stood there.
     for coefficient in coefficients.iter_mut() {
         let here = *coefficient;
         *coefficient = below.plus(root.times(here));
@@ -24,12 +32,12 @@ fn multiply<E: Element + Copy>(coefficients: &mut [E], root: E) -> E
     below.plus(root)
 }
 
-// Writes the coefficients of the product of as many factors as there is room for, but the highest.
-fn expand<E: Element + Copy>(coefficients: &mut [E], subkey: E)
-    ensures { coefficients.new ≡ lower E.Element subkey (length coefficients.old) }
+// Writes the product of as many conjugate factors as there is room for, but for its highest coefficient.
+pub(crate) fn expand<E: Element + Copy>(coefficients: &mut [E], subkey: E)
+    ensures { coefficients.new ≡ lower_conjugates E.Element subkey (length coefficients.old) }
 {
     let mut root = subkey;
-    // Counted, since each round writes the growing front and the place behind it at once.
+    // The front holds a product of degree `degree`, and the place behind it takes the coefficient that the next factor adds.
     for degree in 0..coefficients.len() {
         coefficients[degree] = multiply(&mut coefficients[..degree], root);
         root = root.times(root);
@@ -37,12 +45,11 @@ fn expand<E: Element + Copy>(coefficients: &mut [E], subkey: E)
 }
 
 // The proposal with these coefficients, or none where one of them is neither zero nor one.
-fn read_bits<K: Binary>(coefficients: &[K]) -> Option<K>
+pub(crate) fn read_bits<K: Binary>(coefficients: &[K]) -> Option<K>
     requires { length coefficients.now ≤ K.Binary.width }
-    ensures { MatchOption result (SomeNeither K.Element coefficients.now) (λ p. stored K.Element (length coefficients.now) (K.Binary.bits p) ≡ coefficients.now) }
+    ensures { Reads K.Element K.Binary.bits (length coefficients.now) coefficients.now result }
 {
     let mut proposal = K::zero();
-    // No `try_fold`: it would hold both questions in its closure, and the three cases show no better.
     for (k, coefficient) in coefficients.iter().enumerate() {
         if !coefficient.is_zero() {
             if !coefficient.plus(K::one()).is_zero() {
@@ -54,23 +61,19 @@ fn read_bits<K: Binary>(coefficients: &[K]) -> Option<K>
     Some(proposal)
 }
 
-impl<K: Binary> Scratch<'_, K> {
-    // Expands the product in the scratch and reads it.
-    fn find_bits(&mut self, subkey: K) -> Option<K>
-        ensures same_reference { self.new.elements.ghost_name ≡ self.old.elements.ghost_name }
-        ensures value { MatchOption result (SomeNeither K.Element (lower K.Element subkey K.Binary.width)) (λ p. stored K.Element K.Binary.width (K.Binary.bits p) ≡ lower K.Element subkey K.Binary.width) }
-    {
-        let coefficients = &mut *self.elements;
-        expand(coefficients, subkey);
-        read_bits(coefficients)
-    }
-}
-
-// The polynomial of all conjugates of the subkey, which annihilates it. The scratch is lent for one call, and goes with no subkey.
+/// The polynomial of all conjugates of a subkey: the product of t + subkey^(2^i) for i below the kind's width, which annihilates
+/// the subkey. The answer has its coefficients, that of t^j at index j, but for the highest, which is one.
+///
+/// It refuses with `ScratchTooShort` (5) where the scratch holds fewer elements than the kind's width (128 blocks, 4 nibbles),
+/// and with `NotBinary` (4) where a coefficient is neither zero nor one.
+///
+/// The scratch is lent for this call alone: as many elements at its front as the width are zero afterwards, so that none tells the
+/// subkey, and the others stay. One that is too short is not touched.
 pub fn make_polynomial<K: Binary>(subkey: K, scratch: &mut [K]) -> Result<K, Refusal>
-    ensures value { Made K.Element K.Binary.width (length scratch.old) K.Binary.bits subkey result }
-    ensures annihilates { IfOk result (λ p. Annihilates K.Element K.Binary.width (K.Binary.bits p) subkey) }
-    ensures factors { (point : K) (n : ℕ) → value_at K.Element point (conjugates K.Element subkey n) ≡ factors_at K.Element point subkey n }
+    ensures value { Makes K.Binary.own K.Element (length scratch.old) subkey result }
+    ensures annihilates { IfOk result
+        (λ p. Annihilates K.Element K.Binary.width (K.Binary.bits p) subkey) }
+    ensures factors { IsProductOfFactors K.Element subkey }
     ensures scratch { scratch.new ≡ scratch_after K.Element K.Binary.width scratch.old }
 {
     if scratch.len() < K::width() {
@@ -79,18 +82,4 @@ pub fn make_polynomial<K: Binary>(subkey: K, scratch: &mut [K]) -> Result<K, Ref
     let (elements, _) = scratch.split_at_mut(K::width());
     let mut scratch = Scratch { elements };
     scratch.find_bits(subkey).ok_or(Refusal::NotBinary)
-}
-
-impl<K: Binary> Accepted<K> {
-    // The maker's polynomial. It annihilates the subkey, so that no trial has to follow. The scratch is lent for one call, as above.
-    pub fn make(subkey: K, scratch: &mut [K]) -> Result<Accepted<K>, Refusal>
-        ensures value { AcceptedMade K.Binary.own K.Element (length scratch.old) subkey result }
-        ensures scratch { scratch.new ≡ scratch_after K.Element K.Binary.width scratch.old }
-    {
-        let coefficients = make_polynomial(subkey, scratch)?;
-        Ok(Accepted {
-            subkey,
-            coefficients,
-        })
-    }
 }

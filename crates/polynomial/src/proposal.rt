@@ -1,9 +1,12 @@
 // The trial of a proposal: does it annihilate the subkey?
-ghost use Rattle.std.specs.Prelude.{◌≡◌, map, length};
-ghost use Rattle.std.specs.List.{range_with_len};
+//
+// A proposal stands for t^width plus the sum of t^k over the k where it has a one. The powers of the subkey are written to the
+// scratch, the zeroth first. Those where the proposal has a one are summed, and the next power, that of the highest term, is added:
+// the proposal annihilates the subkey where that comes to zero.
+ghost use Rattle.std.specs.Prelude.{◌≡◌, length};
 ghost use Rattle.field.specs.Evaluation.{power};
-ghost use Rattle.polynomial.specs.Outcomes.{PolynomialTried, scratch_after};
-ghost use Rattle.polynomial.specs.Polynomials.{value_at, stored};
+ghost use Rattle.polynomial.specs.Outcomes.{TriesProposal, scratch_after};
+ghost use Rattle.polynomial.specs.Steps.{SumsPowers, power_list};
 
 use crate::accepted::Accepted;
 use crate::binary::Binary;
@@ -13,12 +16,11 @@ use field::Element;
 use refusal::Refusal;
 
 // Writes the powers of the key from the zeroth on, and answers the next.
-fn fill_powers<E: Element + Copy>(powers: &mut [E], key: E) -> E
+pub(crate) fn fill_powers<E: Element + Copy>(powers: &mut [E], key: E) -> E
     ensures value { result ≡ power E.Element key (length powers.old) }
-    ensures powers { powers.new ≡ map (power E.Element key) (range_with_len 0 (length powers.old)) }
+    ensures powers { powers.new ≡ power_list E.Element key (length powers.old) }
 {
     let mut next = E::one();
-    // No fold and no `fill_with`: each step writes a power and hands the next one on, which a closure would hide.
     for power in powers.iter_mut() {
         *power = next;
         next = key.times(next);
@@ -27,8 +29,8 @@ fn fill_powers<E: Element + Copy>(powers: &mut [E], key: E) -> E
 }
 
 // The sum of the powers where the proposal has a one: its value at the key, but for the highest term.
-fn sum_powers<K: Binary>(powers: &[K], proposal: K) -> K
-    ensures { (key : K) → powers.now ≡ map (power K.Element key) (range_with_len 0 (length powers.now)) → result ≡ value_at K.Element key (stored K.Element (length powers.now) (K.Binary.bits proposal)) }
+pub(crate) fn sum_powers<K: Binary>(powers: &[K], proposal: K) -> K
+    ensures { SumsPowers K.Element (K.Binary.bits proposal) powers.now result }
 {
     powers
         .iter()
@@ -37,25 +39,21 @@ fn sum_powers<K: Binary>(powers: &[K], proposal: K) -> K
         .fold(K::zero(), |sum, (_, power)| sum.plus(*power))
 }
 
-impl<K: Binary> Scratch<'_, K> {
-    // The proposed polynomial's value at the key, by powers that are written to the scratch.
-    fn value_at(&mut self, key: K, proposal: K) -> K
-        ensures same_reference { self.new.elements.ghost_name ≡ self.old.elements.ghost_name }
-        ensures value { result ≡ K.Element.sum (power K.Element key K.Binary.width) (value_at K.Element key (stored K.Element K.Binary.width (K.Binary.bits proposal))) }
-    {
-        let powers = &mut *self.elements;
-        let highest = fill_powers(powers, key);
-        highest.plus(sum_powers(powers, proposal))
-    }
-}
-
-// Accepts a proposal exactly when it annihilates the subkey. The front of the scratch, lent for this call alone, is wiped.
+/// Accepts a proposal exactly when it annihilates the subkey. The proposal's coefficient of index j is that of t^j. The highest,
+/// that of t to the kind's width, is one and not given.
+///
+/// It refuses with `ScratchTooShort` (5) where the scratch holds fewer elements than the kind's width (128 blocks, 4 nibbles),
+/// and with `DoesNotAnnihilate` (3) where the proposal's value at the subkey is not zero.
+///
+/// The scratch is lent for this call alone: as many elements at its front as the width are zero afterwards, so that none tells the
+/// subkey, and the others stay. One that is too short is not touched.
 pub fn try_polynomial<K: Binary>(
     subkey: K,
     proposal: K,
     scratch: &mut [K],
 ) -> Result<Trial<K>, Refusal>
-    ensures value { PolynomialTried K.Binary.own K.Element (length scratch.old) subkey proposal result }
+    ensures value { TriesProposal K.Binary.own K.Element (length scratch.old)
+        subkey proposal result }
     ensures scratch { scratch.new ≡ scratch_after K.Element K.Binary.width scratch.old }
 {
     if scratch.len() < K::width() {

@@ -1,4 +1,4 @@
-// What a trial that accepts answers: its type says that the weight is the polynomial's own.
+// What a trial that accepts answers: its type says that the weight is that of the accepted polynomial.
 ghost use Rattle.std.specs.Prelude.{◌≡◌, ⊤};
 ghost use Rattle.polynomial.specs.Bits.{ones_below};
 
@@ -13,7 +13,6 @@ pub struct Trial<K: Binary> {
     ghost weighed: { weight ≡ ones_below K.Binary.width (K.Binary.bits polynomial.coefficients) },
 }
 
-// By hand, as of `Accepted`: no derive stands over a ghost field that cites a parameter.
 impl<K: Binary> Clone for Trial<K> {
     ghost is_clone = { λ x y. y ≡ x };
 
@@ -27,6 +26,7 @@ impl<K: Binary> Clone for Trial<K> {
 impl<K: Binary> Copy for Trial<K> {}
 
 impl<K: Binary> Trial<K> {
+    // The trial of a polynomial that is accepted already, whose ones are counted here.
     pub(crate) fn new(polynomial: Accepted<K>) -> Trial<K>
         ensures { result.polynomial ≡ polynomial }
     {

@@ -1,19 +1,19 @@
--- What a record brings to the parts of its file.
-use Rattle.std.proofs.Common.{◌≡◌, ℕ, suc, cond, eqb, List, [], ◌++◌, Some, Ok, sym, refl, ap, ◌∙◌, ap₂, add-one}
-use Rattle.format.specs.Faults.{rows_of, data_of}
-use Rattle.reading.specs.Reading.{Taken, piece_for, data_before, Joins}
+-- What a record adds to the parts of its file.
+use Rattle.std.proofs.Common.{ℕ, cond, eqb, List, [], ◌++◌, sym, ap, ◌∙◌, ap₂, add-one}
+use Rattle.std.specs.Simd.{first_chunks}
+use Rattle.format.specs.Faults.{data_of}
+use Rattle.reading.specs.Records.{IsItemOf}
+use Rattle.reading.specs.Readers.{IsNextPiece, data_before, AddsToBoth}
 use Rattle.reading.specs.declared.record.Item.{Item}
 use Rattle.reading.proofs.Scans.{data_more}
 
 -- a record's data come next in its part
-data_joined : (kind k : ℕ) (file held more : List ℕ) (i : Item) → Taken file k i → held ≡ data_of kind (rows_of k file) → more ≡ held ++ piece_for kind i.record
-    → more ≡ data_of kind (rows_of (suc k) file)
-data_joined kind k file held more i taken so_far kept =
-    kept ∙ ap₂ (λ (xs ys : List ℕ). xs ++ ys) so_far (ap₂ (λ (n : ℕ) (xs : List ℕ). cond (eqb n kind) xs []) taken.kind taken.bytes)
-    ∙ sym (data_more kind k file) ∙ ap (λ (j : ℕ). data_of kind (rows_of j file)) (add-one k)
+next_piece : (kind k : ℕ) (file : List ℕ) (i : Item) → IsItemOf file k i → IsNextPiece kind file k i.record
+next_piece kind k file i taken =
+    sym
+    (ap₂ (λ (n : ℕ) (xs : List ℕ). data_before kind k file ++ cond (eqb n kind) xs []) taken.kind taken.bytes
+    ∙ sym (data_more kind k file)
+    ∙ ap (λ (j : ℕ). data_of kind (first_chunks 512 j file)) (add-one k))
 
-pub joins_record : (file : List ℕ) (k : ℕ) (i : Item) → Taken file k i → Joins file k (Ok (Some i))
-joins_record file k i taken = (
-  sym (data_joined 1 k file (data_before 1 k file) (data_before 1 k file ++ piece_for 1 i.record) i taken refl refl),
-  sym (data_joined 2 k file (data_before 2 k file) (data_before 2 k file ++ piece_for 2 i.record) i taken refl refl),
-)
+pub adds_to_both : (file : List ℕ) (k : ℕ) (i : Item) → IsItemOf file k i → AddsToBoth file k i.record
+adds_to_both file k i taken = record { header = next_piece 1 k file i taken; body = next_piece 2 k file i taken }

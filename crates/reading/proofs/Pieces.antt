@@ -15,7 +15,8 @@ joined_push xs x =
     ∙ ap (λ (zs : List ℕ). joined xs ++ zs) (append-nil x.now)
 
 -- the first k pieces and the next are no longer than all
-pub pieces_within : (ps : List (List ℕ)) (xs : List (Bor (List ℕ))) (x : Bor (List ℕ)) → map (λ (y : Bor (List ℕ)). y.now) xs ≡ take (length xs) ps
+pub pieces_within : (ps : List (List ℕ)) (xs : List (Bor (List ℕ))) (x : Bor (List ℕ))
+    → map (λ (y : Bor (List ℕ)). y.now) xs ≡ take (length xs) ps
     → (length xs < length ps) × (x.now ≡ get_or ps (length xs) x.now) → length (joined xs) + length x.now ≤ length (concat ps)
 pieces_within ps xs x so_far next =
     let k : ℕ = length xs in

@@ -1,5 +1,7 @@
 pub mod Shapes
-pub mod Reading
+pub mod Blocks
+pub mod Records
+pub mod Readers
 pub mod Scanning
 pub mod Sections
 pub mod Parts

@@ -1,36 +1,43 @@
 -- What a scan of a file's blocks goes through.
-use Rattle.std.specs.Prelude.{◌≡◌, ℕ, ◌+◌, cond, List, length, filter, Some, Ok, Err, Result, ◌==◌}
+use Rattle.std.specs.Prelude.{◌≡◌, ℕ, ◌+◌, ◌≤◌, if◌then◌else◌, List, length, Some, Ok, Err, Result, ◌==◌}
 use Rattle.refusal.specs.declared.Refusal.{Refusal}
-use Rattle.format.specs.Faults.{first, kind_in, scanned, data_of}
-use Rattle.format.specs.Kinds.{number_of}
-use Rattle.reading.specs.Shapes.{previous_of}
-use Rattle.reading.specs.declared.scanning.Scan.{Scan}
-use Rattle.reading.specs.declared.scanning.Tally.{Tally}
+use Rattle.format.specs.Layout.{most_blocks, file_limit, header_kind, body_kind}
+use Rattle.format.specs.Faults.{no_predecessor, scan_result, blocks_of_kind, data_of}
+use Rattle.format.specs.Kinds.{kind_number}
+use Rattle.reading.specs.Shapes.{predecessor_of}
+use Rattle.reading.specs.declared.scan.Scan.{Scan}
 use Rattle.reading.specs.declared.shape.Shape.{Shape}
+use Rattle.reading.specs.declared.tally.Tally.{Tally}
 
 -- one block more, with so many bytes of data
 abbrev pub tally_with : Tally → ℕ → Tally
 tally_with t used = record { blocks = t.blocks + 1; bytes = t.bytes + used }
 
+-- No more than one file can have.
+pub record IsWithinFile (t : Tally) : Type 0 where
+  pub blocks : t.blocks ≤ most_blocks
+  pub bytes : t.bytes ≤ file_limit
+
 -- one block more, which counts for the part of its kind
 abbrev pub scan_after : Scan → Shape → Scan
 scan_after s b = record {
   last = Some b;
-  header = cond (number_of b.kind == 1) (tally_with s.header b.used) s.header;
-  body = cond (number_of b.kind == 2) (tally_with s.body b.used) s.body;
+  header = if kind_number b.kind == header_kind then tally_with s.header b.used else s.header;
+  body = if kind_number b.kind == body_kind then tally_with s.body b.used else s.body;
 }
 
--- the blocks of a kind
-abbrev pub blocks_of_kind : ℕ → List (List ℕ) → List (List ℕ)
-blocks_of_kind kind bs = filter (λ b. kind_in b == kind) bs
-
--- how many blocks of a kind there are, and how many bytes of data they have
+-- How many blocks of a kind there are, and how many bytes of data they have.
 pub record IsTallyOf (kind : ℕ) (bs : List (List ℕ)) (t : Tally) : Type 0 where
   pub blocks : t.blocks ≡ length (blocks_of_kind kind bs)
   pub bytes : t.bytes ≡ length (data_of kind bs)
 
+-- Blocks without fault: what the last of them says, and how much of each part they have.
+pub record IsScanOf (bs : List (List ℕ)) (s : Scan) : Type 0 where
+  pub sound : scan_result 0 no_predecessor bs ≡ Ok (predecessor_of s.last)
+  pub header : IsTallyOf header_kind bs s.header
+  pub body : IsTallyOf body_kind bs s.body
+
 -- what all blocks say, or the first fault
-abbrev pub Scanned : List (List ℕ) → Result Scan Refusal → Type 0
-Scanned bs (Ok s) =
-    (scanned 0 first bs ≡ Ok (previous_of s.last)) × IsTallyOf 1 bs s.header × IsTallyOf 2 bs s.body
-Scanned bs (Err e) = scanned 0 first bs ≡ Err e
+abbrev pub ScansBlocks : List (List ℕ) → Result Scan Refusal → Type 0
+ScansBlocks bs (Ok s) = IsScanOf bs s
+ScansBlocks bs (Err e) = scan_result 0 no_predecessor bs ≡ Err e

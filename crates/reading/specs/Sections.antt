@@ -2,6 +2,7 @@
 use Rattle.std.specs.Prelude.{◌≡◌, ℕ, List, ◌++◌, map, length, drop, Ok, Err, Result}
 use Rattle.std.specs.List.{concat}
 use Rattle.refusal.specs.declared.Refusal.{Refusal}
+use Rattle.format.specs.Layout.{tag_length}
 use Rattle.format.specs.Faults.{data_in, header_in, body_in, tag_in}
 use Rattle.format.specs.declared.lengths.Lengths.{Lengths}
 use Rattle.reading.specs.declared.section.Section.{Section}
@@ -24,7 +25,7 @@ pub record IsCutOf (file : List ℕ) (s : Sections) : Type 0 where
   pub header : section_bytes s.header ≡ header_in file
   pub body : section_bytes s.body ≡ body_in file
   pub tag : s.tag.now ≡ tag_in file
-  pub whole_tag : length s.tag.now ≡ 16
+  pub whole_tag : length s.tag.now ≡ tag_length
 
 -- how long the parts are, or why the file is refused
 abbrev pub lengths_answer : Result Sections Refusal → Result Lengths Refusal

@@ -6,10 +6,12 @@ mod parts;
 mod prefix;
 mod reader;
 mod record;
+mod scan;
 mod scanning;
 mod section;
 mod sections;
 mod shape;
+mod tally;
 
 pub use parts::read_parts;
 pub use reader::Reader;

@@ -7,9 +7,10 @@ use crate::sections::cut_file;
 use format::Lengths;
 use refusal::Refusal;
 
-/// Reads header and body of a file without fault into two buffers, and answers how long they are; the tag is not looked at.
-/// What stands in a buffer after its part stays as it was. Where it refuses, both buffers stay as they were: a file that
-/// `cut_file` refuses, and then a buffer that is shorter than its part.
+/// Reads header and body of a file without fault into two buffers, and answers how long they are in bytes.
+///
+/// The tag is not looked at. What stands in a buffer after its part stays as it was. It refuses what `cut_file` refuses (9 to 14), and
+/// then a buffer that is shorter than its part (15); where it refuses, both buffers stay as they were.
 pub fn read_parts(file: &[u8], header: &mut [u8], body: &mut [u8]) -> Result<Lengths, Refusal>
     ensures answer { result ≡ parts_answer file.now (length header.old) (length body.old) }
     ensures header { Receives result (header_in file.now) header.old header.new }

@@ -1,7 +1,4 @@
 // The first six bytes of a block, and what follows them.
-ghost use Rattle.std.specs.Prelude.{◌≡◌, length, take};
-ghost use Rattle.reading.specs.Reading.{IsPrefixOf};
-
 use format::BLOCK_BYTES;
 
 /// The six bytes by what they say, as they stand there: the kind may be any byte.
@@ -10,13 +7,16 @@ pub(crate) struct Prefix<'a> {
     pub(crate) number: u32,
     pub(crate) kind: u8,
     pub(crate) reserve: u8,
-    // How many bytes of data the block says it has.
+    /// How many bytes of data the block says it has.
     pub(crate) used: usize,
-    // The block from its seventh byte on: the data, zeros past them, and the check.
+    /// The block from its seventh byte on: the data, zeros past them, and the check.
     pub(crate) rest: &'a [u8],
 }
 
 impl<'a> Prefix<'a> {
+    ghost use Rattle.std.specs.Prelude.{◌≡◌, length, take};
+    ghost use Rattle.reading.specs.Blocks.{IsPrefixOf};
+
     pub(crate) fn read(block: &'a [u8; BLOCK_BYTES]) -> Prefix<'a>
         ensures says { IsPrefixOf block.now result }
         ensures whole { length result.rest.now ≡ 506 }

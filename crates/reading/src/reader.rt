@@ -1,19 +1,21 @@
 // A file read record by record.
-ghost use Rattle.std.specs.Prelude.{◌≡◌, ◌*◌, ◌≤◌, length, take};
-ghost use Rattle.format.specs.Faults.{previous, previous_at};
-ghost use Rattle.format.specs.Kinds.{number_of};
-ghost use Rattle.reading.specs.Reading.{Joins, Parsed, Read, data_held, kind_of};
-ghost use Rattle.reading.specs.Shapes.{previous_of, shown};
+//
+// The reader stands between two blocks. It keeps what the block before it says, all that the next block's order depends on; the ghost
+// fields say that what it keeps is right. `next` moves only where a record comes out.
+ghost use Rattle.std.specs.Prelude.{◌≡◌, ◌*◌, ◌≤◌, length};
+ghost use Rattle.format.specs.Layout.{block_length};
+ghost use Rattle.format.specs.Faults.{predecessor_at};
+ghost use Rattle.reading.specs.Shapes.{predecessor_of};
 
-use crate::faults::{check_block, size_good};
-use crate::prefix::Prefix;
-use crate::record::{Item, Record};
+use crate::faults::{check_block, is_size_good};
+use crate::record::{Item, parse};
 use crate::shape::Shape;
-use format::{BLOCK_BYTES, Kind};
+use format::BLOCK_BYTES;
 use refusal::Refusal;
 
-/// A window on a file, moved from block to block. It answers a refusal again at every later call, so its `next` is a method of its own:
-/// a loop over an `Iterator` that does so would not end.
+/// A window on a file, moved from block to block.
+///
+/// It is no `Iterator`: a refusal comes again at every later call, so that a loop over it would not end.
 #[derive(Drop)]
 pub struct Reader<'a> {
     pub(crate) file: &'a [u8],
@@ -21,40 +23,18 @@ pub struct Reader<'a> {
     pub(crate) place: usize,
     // The last of them.
     pub(crate) last: Option<Shape>,
-    ghost within: { 512 * place ≤ length file.now },
-    ghost kind: { (previous_of last).kind ≡ (previous_at file.now place).kind },
-    ghost used: { (previous_of last).used ≡ (previous_at file.now place).used },
-}
-
-// The record of a block of this kind, with its data.
-fn record_of<'a>(kind: Kind, data: &'a [u8]) -> Record<'a>
-    ensures kind { kind_of result ≡ number_of kind }
-    ensures bytes { data_held result ≡ «data».now }
-{
-    match kind {
-        Kind::Header => Record::Header(data),
-        Kind::Body => Record::Body(data),
-        Kind::End => Record::End(data),
-    }
-}
-
-// The record of a block of this shape, and the bytes after the block.
-// A bare pair, as a parser answers: what was read, and what is left.
-fn parse<'a>(left: &'a [u8], shape: Shape) -> (Record<'a>, &'a [u8])
-    requires long { 512 ≤ length left.now }
-    requires shape { shown shape ≡ previous (take 512 left.now) }
-    ensures { Parsed left.now result.0 result.1.now }
-{
-    let Some((block, rest)) = left.split_first_chunk::<BLOCK_BYTES>() else {
-        unreachable!()
-    };
-    (record_of(shape.kind, Prefix::read(block).data()), rest)
+    ghost within: { block_length * place ≤ length file.now },
+    ghost kind: { (predecessor_of last).kind ≡ (predecessor_at file.now place).kind },
+    ghost used: { (predecessor_of last).used ≡ (predecessor_at file.now place).used },
 }
 
 impl<'a> Reader<'a> {
-    /// A reader before the first block.
+    ghost use Rattle.reading.specs.Readers.{AddsToParts, ReadsBlock, blocks_read, lent_file};
+
+    /// A reader before the first block of a file. Any bytes may be lent; what is wrong with them, `next` says.
     pub fn new(file: &'a [u8]) -> Reader<'a>
-        ensures { (result.file.now ≡ file.now) × (result.place ≡ 0) }
+        ensures lent { lent_file result ≡ file.now }
+        ensures start { blocks_read result ≡ 0 }
     {
         Reader {
             file,
@@ -63,16 +43,18 @@ impl<'a> Reader<'a> {
         }
     }
 
-    /// The next record, or none after the end; a refusal leaves the reader where it is.
-    #[tactic(auto, using(crate::proofs::Scans::rows_all))]
+    /// The next record, or none where the last was the end. It refuses a file of a wrong size (9), a block with a fault (10 to 13,
+    /// with its place) and a file that is over without an end block (14, with the count of blocks). A refusal leaves the reader
+    /// where it is.
+    #[tactic(auto, using(crate::proofs::Scans::all_blocks_read))]
     pub fn next(&mut self) -> Result<Option<Item<'a>>, Refusal>
-        ensures file { self.new.file.now ≡ self.old.file.now }
-        ensures read { Read self.old.file.now self.old.place self.new.place result }
-        ensures joins { Joins self.old.file.now self.old.place result }
+        ensures file { lent_file self.new ≡ lent_file self.old }
+        ensures read { ReadsBlock self.old self.new result }
+        ensures joins { AddsToParts self.old result }
     {
         let file = self.file;
         let place = self.place;
-        if !size_good(file) {
+        if !is_size_good(file) {
             return Err(Refusal::FileSize);
         }
         let left = &file[BLOCK_BYTES * place..];

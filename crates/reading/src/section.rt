@@ -1,12 +1,8 @@
 // The blocks of one part.
-ghost use Rattle.std.specs.Prelude.{◌≤◌, length};
-ghost use Rattle.std.specs.Iterator.{YieldsFirstRef, item_count};
-ghost use Rattle.reading.specs.Sections.{OverwritesFront, section_bytes, section_pieces};
-
 use crate::prefix::Prefix;
 use format::BLOCK_BYTES;
 
-/// The blocks of one part of a file, one after another: an iterator that answers the data of each.
+/// The blocks of one part of a file, one after another: an iterator over the data of each, which joined are the part.
 #[derive(Drop)]
 pub struct Section<'a> {
     // The blocks whose data are still to come.
@@ -14,6 +10,9 @@ pub struct Section<'a> {
 }
 
 impl<'a> Iterator for Section<'a> {
+    ghost use Rattle.std.specs.Iterator.{YieldsFirstRef, item_count};
+    ghost use Rattle.reading.specs.Sections.{section_pieces};
+
     type Item = &'a [u8];
 
     ghost next_gives = { YieldsFirstRef section_pieces };
@@ -28,6 +27,9 @@ impl<'a> Iterator for Section<'a> {
 }
 
 impl<'a> Section<'a> {
+    ghost use Rattle.std.specs.Prelude.{◌≤◌, length};
+    ghost use Rattle.reading.specs.Sections.{OverwritesFront, section_bytes};
+
     /// Writes the part to the front of an output that has room for it, and leaves what stands after.
     pub(crate) fn copy_to(self, output: &mut [u8])
         requires room { length (section_bytes self) ≤ length output.old }

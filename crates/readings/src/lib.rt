@@ -1,28 +1,40 @@
 // A table of readings, worked out by the library's calls and proved of the definitions.
+//
+// Whoever reads a definition can hold it beside a value that is known from elsewhere: each row of the table says one of the definitions,
+// and the calls answer nine of them, which a program may print.
 #![tactic(auto)]
 
 ghost use Rattle.std.specs.Prelude.{◌≡◌, Ok};
 ghost use Rattle.field.specs.Kinds.{nibble, word};
-ghost use Rattle.message.specs.Answer.{answer};
-ghost use Rattle.readings.specs.Table.{Table, expected, first, hash_in};
+ghost use Rattle.readings.specs.Table.{Table, first, hash_at_one, table_readings};
 
 use field::{Block, Element, Nibble, Word, evaluate};
-use message::Message;
+use message::{Message, Pad};
 use refusal::Refusal;
 
-// The key of the words.
+// The key of the words' readings.
 const KEY: u32 = 16_807;
 
+/// What the calls of the library answer on a few elements and short messages.
 #[derive(Clone, Copy)]
 pub struct Readings {
+    /// The product of the nibbles 0110 and 0011.
     pub nibble_product: Nibble,
+    /// The nibbles 0001, 0001, evaluated at the key 0010.
     pub nibble_value: Nibble,
+    /// The word 1, evaluated at the key 16,807.
     pub word_one: Word,
+    /// The words 1, 0, evaluated at the key 16,807.
     pub word_two: Word,
+    /// The block of 15 zero bytes and 01, evaluated at the key of 40 and 15 zero bytes.
     pub block_value: Block,
+    /// The hash of an empty header and an empty body: zero at any subkey.
     pub empty_hash: Block,
+    /// The tag of an empty header and an empty body, as a block: the pad itself.
     pub empty_tag: Block,
+    /// The hash of an empty header and a body of the byte 80, at the subkey of 80 and 15 zero bytes.
     pub body_only: Block,
+    /// The hash of a header of the byte 80 and an empty body, at that subkey.
     pub header_only: Block,
 }
 
@@ -30,7 +42,7 @@ pub struct Readings {
 fn nibble_product() -> Nibble
     ensures { result ≡ nibble 0b1010 }
 {
-    Nibble::new(0b0110).times(Nibble::new(0b0011))
+    Nibble::new(0b0110) * Nibble::new(0b0011)
 }
 
 // 0001, 0001 at the key 0010.
@@ -62,18 +74,18 @@ fn block_value() -> Block
     evaluate(Block::new(0x40 << 120), Block::zero(), &[Block::new(1)])
 }
 
-// The hash at the subkey 80 00..00, which is one.
+// The hash at the subkey 80 00..00, which is one. It does not depend on the pad.
 fn hash_at_one(message: Message) -> Result<Block, Refusal>
-    ensures { result ≡ hash_in (answer (first 0x80) (first 0x80) message.entry.header.now message.entry.body.now) }
+    ensures { result ≡ hash_at_one message.entry.header.now message.entry.body.now }
 {
-    let one = Block::one();
-    Ok(message.hash_and_tag(one, one)?.hash)
+    let digest = message.hash_and_tag(Block::one(), Pad(Block::zero()))?;
+    Ok(digest.hash)
 }
 
-// The table; the empty message's rows hold at any subkey and under any pad, which come apart as in the calls that are read.
-pub fn take_readings(subkey: Block, pad: Block) -> Result<Readings, Refusal>
+/// Takes every reading, those of the empty message at the given subkey and under the given pad. Nothing is refused.
+pub fn take_readings(subkey: Block, pad: Pad) -> Result<Readings, Refusal>
     ensures table { Table }
-    ensures value { result ≡ Ok (expected pad) }
+    ensures value { result ≡ Ok (table_readings pad) }
 {
     let empty = Message {
         header: &[],
@@ -87,7 +99,7 @@ pub fn take_readings(subkey: Block, pad: Block) -> Result<Readings, Refusal>
         word_two: word_two(),
         block_value: block_value(),
         empty_hash: digest.hash,
-        empty_tag: digest.tag,
+        empty_tag: digest.tag.0,
         body_only: hash_at_one(Message {
             header: &[],
             body: &[0x80],

@@ -2,48 +2,53 @@
 #![tactic(auto)]
 
 ghost use Rattle.std.specs.Prelude.{◌≡◌, Some};
-ghost use Rattle.refusal.specs.Refusals.{line_of, number_of, place_of, text_of};
+ghost use Rattle.refusal.specs.Refusals.{refusal_line, refusal_number, refusal_place, refusal_text};
 
 use std::error::Error;
 use std::fmt;
 
+/// Why a call is refused.
+///
+/// What a case calls as it was is all that was handed to the refused call: engine, job, reader, scratch, output and buffers.
 #[derive(Clone, Copy, PartialEq, Eq, Debug)]
 pub enum Refusal {
-    // The header has more than 65,535 bytes.
+    /// 1: the header has more than 65,535 bytes. All is as it was.
     HeaderTooLong,
-    // The body has more than 68,719,476,704 bytes.
+    /// 2: the body has more than 68,719,476,704 bytes, the limit of NIST SP 800-38D, section 5.2.1.1. All is as it was.
     BodyTooLong,
-    // The proposed polynomial does not annihilate the subkey.
+    /// 3: the proposed polynomial does not annihilate the subkey. The front of the scratch is zero, an element for each coefficient
+    /// of a polynomial (128 for blocks, 4 for nibbles), and the rest of it is as it was.
     DoesNotAnnihilate,
-    // A coefficient of the made polynomial is neither zero nor one.
+    /// 4: a coefficient of the made polynomial is neither zero nor one. The scratch is left as by 3.
     NotBinary,
-    // The scratch has fewer elements than a polynomial has coefficients.
+    /// 5: the scratch has fewer elements than a polynomial has coefficients (128 for blocks, 4 for nibbles). All is as it was.
     ScratchTooShort,
-    // A switch was asked of an engine that is not ready for one.
+    /// 6: a switch was asked of an engine that is not ready for one. All is as it was.
     NotReady,
-    // A tag to be compared is shorter than 4 bytes or longer than 16.
+    /// 7: a tag to be compared is shorter than 4 bytes or longer than 16. All is as it was.
     TagLength,
+    /// 8: the tag is another. The engine has hashed the message, and its value is the hash.
     TagDiffers,
-    // A file has no blocks, a part of a block, or more than 65,536 blocks.
+    /// 9: a file has no blocks, a part of a block, or more than 65,536 blocks. All is as it was.
     FileSize,
-    // The check at the end of this block is not that of its bytes.
+    /// 10: the check at the end of this block is not that of its bytes. All is as it was.
     WrongCheck { block: u32 },
-    // This block's number is not its place.
+    /// 11: this block's number is not its place. All is as it was.
     WrongNumber { block: u32 },
-    // This block's kind, reserve, used length or a byte past it is wrong.
+    /// 12: this block's kind, reserve, used length or a byte past it is wrong. All is as it was.
     WrongForm { block: u32 },
-    // This block may not stand after the one before it.
+    /// 13: this block may not stand after the one before it. All is as it was.
     WrongOrder { block: u32 },
-    // The last of this many blocks is no end block.
+    /// 14: the last of this many blocks is no end block. All is as it was.
     NoEnd { blocks: u32 },
-    // The output has no room for the answer.
+    /// 15: the output has no room for the answer, or a buffer none for its part. All is as it was.
     OutputTooShort,
 }
 
 impl Refusal {
-    // The number that users and other programs know the refusal by. No From, since the name says which number is meant.
+    /// The number that users and other programs know the refusal by, 1 to 15. For C it is made negative.
     pub fn number(self) -> u8
-        ensures { result ≡ number_of self }
+        ensures { result ≡ refusal_number self }
     {
         match self {
             Refusal::HeaderTooLong => 1,
@@ -64,9 +69,9 @@ impl Refusal {
         }
     }
 
-    // The cause alone, which `Display` puts after number and place. No derive: the words are pinned to a definition.
+    /// The cause alone, without number and place. Users read these words, and a definition pins each of them.
     pub fn text(self) -> &'static str
-        ensures { result.now ≡ text_of self }
+        ensures { result.now ≡ refusal_text self }
     {
         match self {
             Refusal::HeaderTooLong => "header over its limit",
@@ -87,9 +92,9 @@ impl Refusal {
         }
     }
 
-    // The block that is named, from 0, or the count of blocks where the end is missing. No derive: only some causes have one.
+    /// The block that 10 to 13 name, counted from 0, or the count of blocks of 14, where the end is missing. Others have none.
     pub fn place(self) -> Option<u32>
-        ensures { result ≡ place_of self }
+        ensures { result ≡ refusal_place self }
     {
         match self {
             Refusal::WrongCheck { block }
@@ -102,9 +107,9 @@ impl Refusal {
     }
 }
 
-// One line: the number, the place if there is one, and the text.
+/// One line: the number, the place if there is one, and the text, as in `refused 8: tag differs`.
 impl fmt::Display for Refusal {
-    ghost output = { λ refusal. Some (line_of refusal) };
+    ghost output = { λ refusal. Some (refusal_line refusal) };
 
     fn fmt<W: fmt::Write>(&self, f: &mut fmt::Formatter<W>) -> fmt::Result {
         let number = self.number();

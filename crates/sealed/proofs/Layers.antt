@@ -5,13 +5,13 @@ use Rattle.std.proofs.lemmas.List.{length-drop, length-take-le, length-replicate
 use Rattle.std.proofs.lemmas.Slice.{take-put_mid}
 use Rattle.message.proofs.Cutting.{next_of}
 use Rattle.format.proofs.Pieces.{length_pieces, pieces_more}
-use Rattle.format.specs.Layout.{Content, blocks_for, front, check_of, block_bytes, content, contents, laid, pieces}
-use Rattle.format.specs.Verdict.{after}
+use Rattle.format.specs.Layout.{Content, blocks_for, checked_bytes, check_of, block_bytes, content, file_contents, numbered_blocks, data_pieces}
+use Rattle.format.specs.Verdict.{and_then}
 use Rattle.field.specs.Digits.{digits}
-use Rattle.field.specs.declared.kinds.Block.{Block}
+use Rattle.message.specs.declared.digest.Digest.{Digest}
 use Rattle.refusal.specs.declared.Refusal.{Refusal}
 use Rattle.sealed.specs.Writing.{room_answer}
-use Rattle.sealed.specs.declared.handed.Sealed.{Sealed}
+use Rattle.sealed.specs.declared.sealed.Sealed.{Sealed}
 use Rattle.std.proofs.lemmas.Bool.Decides.{nat_tests}
 use Rattle.sealed.proofs.Numbers.{two_digits, four_digits}
 
@@ -52,9 +52,9 @@ module _ (block : List ℕ) (whole : length block ≡ 512) (number kind : ℕ) (
     length₃ : length b₃ ≡ 512
     length₃ = put_length (6 + length bytes) n b₂ w₃ (omega (arith, length₂, left)) zeros ∙ length₂
 
-    front_laid : take 508 b₃ ≡ front number (content kind bytes)
-    unfolding front
-    front_laid =
+    front_numbered : take 508 b₃ ≡ checked_bytes number (content kind bytes)
+    unfolding checked_bytes
+    front_numbered =
         let fill : List ℕ = replicate (502 - length bytes) 0 in
         take-put_mid (6 + length bytes) n b₂ w₃ 508 (omega (arith, zeros, left)) (omega (arith, length₂))
         ∙ ap₂ (λ (xs ys : List ℕ). xs ++ ys)
@@ -65,30 +65,30 @@ module _ (block : List ℕ) (whole : length block ≡ 512) (number kind : ℕ) (
         ∙ ap₂ (λ (xs ys : List ℕ). xs ++ (kind ∷ (0 ∷ (ys ++ (bytes ++ fill))))) (sym (two_digits number)) (sym (two_digits (length bytes)))
 
     -- and the check ends the block
-    pub block_laid : (check : ℕ) (w₄ : List ℕ) → check ≡ check_of (take 508 b₃)
+    pub block_numbered : (check : ℕ) (w₄ : List ℕ) → check ≡ check_of (take 508 b₃)
         → w₄ ≡ check / 16777216 % 256 ∷ (check / 65536 % 256 ∷ (check / 256 % 256 ∷ (check % 256 ∷ [])))
         → put_mid 508 4 b₃ w₄ ≡ block_bytes number (content kind bytes)
-    block_laid check w₄ counted wrote₄ =
+    block_numbered check w₄ counted wrote₄ =
         let size : length (put_mid 508 4 b₃ w₄) ≡ 512 = put_length 508 4 b₃ w₄ (omega (arith, length₃)) (ap length wrote₄) ∙ length₃ in
         sym (take_all 512 (put_mid 508 4 b₃ w₄) (omega (arith, size)))
         ∙ take-put_mid 508 4 b₃ w₄ 512 (sym (ap (λ (xs : List ℕ). 508 + length xs) wrote₄)) (omega (arith, length₃))
-        ∙ ap₂ (λ (xs ys : List ℕ). xs ++ ys) front_laid
-        (wrote₄ ∙ sym (four_digits check) ∙ ap (digits 256 4) (counted ∙ ap check_of front_laid))
+        ∙ ap₂ (λ (xs ys : List ℕ). xs ++ ys) front_numbered
+        (wrote₄ ∙ sym (four_digits check) ∙ ap (digits 256 4) (counted ∙ ap check_of front_numbered))
 
 -- ---- the pieces of a part
 
 -- the next piece, and those of what follows
-pub next_piece : (piece more : List ℕ) → length piece ≡ min 502 (length (piece ++ more)) → 0 < length (piece ++ more) → pieces (piece ++ more) ≡ piece ∷ pieces more
+pub next_piece : (piece more : List ℕ) → length piece ≡ min 502 (length (piece ++ more)) → 0 < length (piece ++ more) → data_pieces (piece ++ more) ≡ piece ∷ data_pieces more
 next_piece piece more size some =
     let whole = length-append piece more in
     pieces_more piece more (omega arith) (next_of 502 piece more size)
 
-pub laid_append : (n : ℕ) (cs ds : List Content) → laid n (cs ++ ds) ≡ laid n cs ++ laid (n + length cs) ds
-laid_append n [] ds = let e : n ≡ n + 0 = omega arith in ap (λ (k : ℕ). laid k ds) e
-laid_append n (c ∷ cs) ds =
+pub numbered_append : (n : ℕ) (cs ds : List Content) → numbered_blocks n (cs ++ ds) ≡ numbered_blocks n cs ++ numbered_blocks (n + length cs) ds
+numbered_append n [] ds = let e : n ≡ n + 0 = omega arith in ap (λ (k : ℕ). numbered_blocks k ds) e
+numbered_append n (c ∷ cs) ds =
     let e : suc n + length cs ≡ n + suc (length cs) = omega arith in
-    ap (λ (xs : List ℕ). block_bytes n c ++ xs) (laid_append (suc n) cs ds ∙ ap (λ (k : ℕ). laid (suc n) cs ++ laid k ds) e)
-    ∙ sym (append_assoc (block_bytes n c) (laid (suc n) cs) (laid (n + suc (length cs)) ds))
+    ap (λ (xs : List ℕ). block_bytes n c ++ xs) (numbered_append (suc n) cs ds ∙ ap (λ (k : ℕ). numbered_blocks (suc n) cs ++ numbered_blocks k ds) e)
+    ∙ sym (append_assoc (block_bytes n c) (numbered_blocks (suc n) cs) (numbered_blocks (n + suc (length cs)) ds))
 
 -- what is the same from a place on is the same further on
 pub drop_further : (n k : ℕ) (xs ys : List ℕ) → n ≤ k → drop n xs ≡ drop n ys → drop k xs ≡ drop k ys
@@ -97,19 +97,19 @@ drop_further n k xs ys further same =
     sym (drop-drop (k - n) n xs ∙ ap (λ (j : ℕ). drop j xs) e) ∙ ap (drop (k - n)) same ∙ drop-drop (k - n) n ys ∙ ap (λ (j : ℕ). drop j ys) e
 
 -- header, body and end, one after the other
-pub whole_laid : (header body tag : List ℕ) (n k : ℕ) → n ≡ 0 + (length header + 501) / 502 → k ≡ n + (length body + 501) / 502
-    → (laid 0 (map (content 1) (pieces header)) ++ laid n (map (content 2) (pieces body))) ++ block_bytes k (content 3 tag) ≡ laid 0 (contents header body tag)
-whole_laid header body tag n k upto-body upto-end =
-    let hs : List Content = map (content 1) (pieces header) in
-    let bs : List Content = map (content 2) (pieces body) in
+pub whole_numbered : (header body tag : List ℕ) (n k : ℕ) → n ≡ 0 + (length header + 501) / 502 → k ≡ n + (length body + 501) / 502
+    → (numbered_blocks 0 (map (content 1) (data_pieces header)) ++ numbered_blocks n (map (content 2) (data_pieces body))) ++ block_bytes k (content 3 tag) ≡ numbered_blocks 0 (file_contents header body tag)
+whole_numbered header body tag n k upto-body upto-end =
+    let hs : List Content = map (content 1) (data_pieces header) in
+    let bs : List Content = map (content 2) (data_pieces body) in
     let last : List Content = content 3 tag ∷ [] in
-    let upto : n ≡ 0 + length hs = upto-body ∙ ap (λ (j : ℕ). 0 + j) (sym (length-map (pieces header) (content 1) ∙ length_pieces header)) in
-    let over : k ≡ n + length bs = upto-end ∙ ap (λ (j : ℕ). n + j) (sym (length-map (pieces body) (content 2) ∙ length_pieces body)) in
-    append_assoc (laid 0 hs) (laid n bs) (block_bytes k (content 3 tag))
-    ∙ ap (λ (xs : List ℕ). laid 0 hs ++ (laid n bs ++ xs)) (sym (append-nil (block_bytes k (content 3 tag))) ∙ ap (λ (j : ℕ). laid j last) over)
-    ∙ ap (λ (xs : List ℕ). laid 0 hs ++ xs) (sym (laid_append n bs last))
-    ∙ ap (λ (j : ℕ). laid 0 hs ++ laid j (bs ++ last)) upto
-    ∙ sym (laid_append 0 hs (bs ++ last))
+    let upto : n ≡ 0 + length hs = upto-body ∙ ap (λ (j : ℕ). 0 + j) (sym (length-map (data_pieces header) (content 1) ∙ length_pieces header)) in
+    let over : k ≡ n + length bs = upto-end ∙ ap (λ (j : ℕ). n + j) (sym (length-map (data_pieces body) (content 2) ∙ length_pieces body)) in
+    append_assoc (numbered_blocks 0 hs) (numbered_blocks n bs) (block_bytes k (content 3 tag))
+    ∙ ap (λ (xs : List ℕ). numbered_blocks 0 hs ++ (numbered_blocks n bs ++ xs)) (sym (append-nil (block_bytes k (content 3 tag))) ∙ ap (λ (j : ℕ). numbered_blocks j last) over)
+    ∙ ap (λ (xs : List ℕ). numbered_blocks 0 hs ++ xs) (sym (numbered_append n bs last))
+    ∙ ap (λ (j : ℕ). numbered_blocks 0 hs ++ numbered_blocks j (bs ++ last)) upto
+    ∙ sym (numbered_append 0 hs (bs ++ last))
 
 -- ---- what the lengths allow
 
@@ -117,12 +117,12 @@ pub limits_kept : (header body output n : ℕ) → Ok n ≡ room_answer header b
 limits_kept header body output n done =
     (grind (arith, nat_tests, done), grind (arith, nat_tests, done))
 
--- what a message is sealed with has the count of its room, and its tag
-pub sealed_parts : (hash tag : Block) (r : Result ℕ Refusal) (s : Sealed) → Ok s ≡ after r (λ n. Ok record { blocks = n; hash = hash; tag = tag })
-    → (Ok s.blocks ≡ r) × (s.tag ≡ tag)
-sealed_parts hash tag (Ok n) s same =
-    let is : s ≡ record { blocks = n; hash = hash; tag = tag } = cc in
-    (ap (λ (x : Sealed). counted x.blocks) is, ap (λ (x : Sealed). x.tag) is) where
+-- what a message is sealed with has the count of its room, and its digest
+pub sealed_parts : (digest : Digest) (r : Result ℕ Refusal) (s : Sealed) → Ok s ≡ and_then r (λ n. Ok record { blocks = n; digest = digest })
+    → (Ok s.blocks ≡ r) × (s.digest ≡ digest)
+sealed_parts digest (Ok n) s same =
+    let is : s ≡ record { blocks = n; digest = digest } = cc in
+    (ap (λ (x : Sealed). counted x.blocks) is, ap (λ (x : Sealed). x.digest) is) where
       counted : ℕ → Result ℕ Refusal
       counted k = Ok k
-sealed_parts hash tag (Err e) s same = cc
+sealed_parts digest (Err e) s same = cc

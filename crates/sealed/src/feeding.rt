@@ -2,7 +2,7 @@
 ghost use Rattle.std.specs.Prelude.{◌≡◌, ℕ, ◌+◌, ◌≤◌, List, [], ◌++◌, length};
 ghost use Rattle.message.specs.Limits.{header_limit, body_limit};
 ghost use Rattle.reading.specs.Sections.{section_bytes};
-ghost use Rattle.sealed.specs.Feeding.{BodyFed, HeaderFed};
+ghost use Rattle.sealed.specs.Feeding.{BodyIsFed, HeaderIsFed};
 
 use engine::Engine;
 use job::{BodyJob, HeaderJob};
@@ -16,18 +16,21 @@ pub(crate) trait Takes {
     ghost fed: { Self → List ℕ → Self → Type 0 };
 
     fn take(&mut self, piece: &[u8])
-        ensures { (first : Self) (taken : List ℕ) → length taken + length piece.now ≤ limit → fed first taken self.old → fed first (taken ++ piece.now) self.new };
+        ensures { (first : Self) (taken : List ℕ)
+            → length taken + length piece.now ≤ limit
+            → fed first taken self.old
+            → fed first (taken ++ piece.now) self.new };
 
     ghost begins: { (first : Self) → fed first [] first };
 }
 
-// Nothing is refused, since all together is within the limit. One for each type of job, since a state is a type.
+// Nothing is refused, since all together is within the limit.
 impl<E: Engine> Takes for HeaderJob<E> {
     ghost limit = { header_limit };
 
-    ghost fed = { HeaderFed E.Engine };
+    ghost fed = { HeaderIsFed E.Engine };
 
-    ghost begins = { λ first h given e took. took };
+    ghost begins = { λ first h can_switch began took. took };
 
     fn take(&mut self, piece: &[u8]) {
         let _ = self.feed(piece);
@@ -37,16 +40,16 @@ impl<E: Engine> Takes for HeaderJob<E> {
 impl<E: Engine> Takes for BodyJob<E> {
     ghost limit = { body_limit };
 
-    ghost fed = { BodyFed E.Engine };
+    ghost fed = { BodyIsFed E.Engine };
 
-    ghost begins = { λ first h given e header took. took };
+    ghost begins = { λ first h can_switch header began took. took };
 
     fn take(&mut self, piece: &[u8]) {
         let _ = self.feed(piece);
     }
 }
 
-/// Feeds a part, block by block.
+// Feeds a part, block by block.
 pub(crate) fn feed_part<J: Takes>(job: &mut J, part: Section)
     requires { length (section_bytes part) ≤ J.limit }
     ensures { J.fed job.old (section_bytes part.entry) job.new }

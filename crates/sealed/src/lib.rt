@@ -1,13 +1,15 @@
 // Sealed files: writing and checking.
 #![tactic(auto)]
 
+mod blocks;
 mod checking;
 mod feeding;
-mod handed;
 mod hashing;
-mod laying;
+mod sealed;
+mod with_engine;
 mod writing;
 
 pub use checking::check_file;
-pub use handed::{Checked, Handed, Sealed, Written};
+pub use sealed::Sealed;
+pub use with_engine::{Checked, WithEngine, Written};
 pub use writing::write_file;

@@ -1,20 +1,23 @@
 // A whole file, written at the front of an output.
-ghost use Rattle.std.specs.Prelude.{◌≡◌, ◌++◌, length, drop, MatchResult, OnOk};
-ghost use Rattle.format.specs.Layout.{sealed};
+//
+// All that can refuse the file is looked at first, by lengths alone; then the message is hashed, and the blocks are written last. So a
+// refusal finds neither the engine nor the output touched.
+ghost use Rattle.std.specs.Prelude.{◌≡◌, length, OnOk};
+ghost use Rattle.format.specs.Layout.{sealed_file};
 ghost use Rattle.format.specs.Verdict.{Reopens};
-ghost use Rattle.tag.specs.Tags.{Ran};
-ghost use Rattle.sealed.specs.Writing.{answer_for, room_answer, seal_answer, RanIfSealed};
+ghost use Rattle.sealed.specs.Writing.{answer_for, HashesIfSealed, room_answer, seal_answer, WritesFile};
 
-use crate::handed::{Handed, Sealed, Written};
-use crate::laying::put_file;
+use crate::blocks::write_parts;
+use crate::sealed::Sealed;
+use crate::with_engine::{WithEngine, Written};
 use engine::Engine;
-use field::Block;
 use format::{BLOCK_BYTES, MOST_BLOCKS, blocks_for};
-use message::{Digest, Message, Part};
+use message::{Message, Pad, Part};
 use refusal::Refusal;
 use tag::tag_message;
 
-// How many blocks the file has, where it may be written. Three lengths, and no struct of two: one answer is made of all.
+// How many blocks the file has, where it may be written: the header's limit is looked at first, then the most blocks that a file may
+// have, then the room for it.
 fn count_blocks(header: usize, body: usize, output: usize) -> Result<u32, Refusal>
     ensures { result ≡ room_answer header body output }
 {
@@ -31,42 +34,41 @@ fn count_blocks(header: usize, body: usize, output: usize) -> Result<u32, Refusa
     Ok(blocks as u32)
 }
 
-// Hashes a message, where its file fits an output of this many bytes. A refusal comes before the engine is touched.
+// Hashes a message, where its file fits an output of this many bytes. A refusal comes before the engine is touched. The limits of a
+// message refuse nothing more: a longer header is refused by then, and a file holds less body than the limit.
 fn hash_for_file<E: Engine>(
     engine: &mut E,
-    pad: Block,
+    pad: Pad,
     message: Message,
     room: usize,
 ) -> Result<Sealed, Refusal>
     ensures answer { result ≡ answer_for (E.subkey_of engine.old) pad message.entry room }
-    ensures engine { RanIfSealed E.Engine engine.old message.entry engine.new result }
+    ensures engine { HashesIfSealed E.Engine engine.old message.entry engine.new result }
 {
-    let count = count_blocks(message.header.len(), message.body.len(), room)?;
-    // The limits of a message are looked at again here and never refuse: a file holds less than they allow.
-    let Digest { hash, tag, .. } = tag_message(engine, pad, message)?;
-    Ok(Sealed {
-        blocks: count,
-        hash,
-        tag,
-    })
+    let blocks = count_blocks(message.header.len(), message.body.len(), room)?;
+    let digest = tag_message(engine, pad, message)?;
+    Ok(Sealed { blocks, digest })
 }
 
-// Nothing is written, and the engine is not touched, where the answer is a refusal. The pad stays apart, as in a job.
-pub fn write_file<E: Engine>(
-    engine: E,
-    pad: Block,
-    message: Message,
-    output: &mut [u8],
-) -> Written<E>
-    ensures answer { result.answer ≡ seal_answer (E.subkey_of engine) pad message.entry.header.now message.entry.body.now (length output.old) }
-    ensures output { MatchResult result.answer (λ _. output.new ≡ sealed (E.subkey_of engine) pad message.entry.header.now message.entry.body.now ++ drop (length (sealed (E.subkey_of engine) pad message.entry.header.now message.entry.body.now)) output.old) (λ _. output.new ≡ output.old) }
-    ensures reopens { OnOk result.answer (Reopens (E.subkey_of engine) pad message.entry.header.now message.entry.body.now) }
-    ensures engine { MatchResult result.answer (λ _. Ran E.Engine engine message.entry.header.now message.entry.body.now result.engine) (λ _. result.engine ≡ engine) }
+/// Seals a message into a file at the front of an output, whose bytes after the file stay.
+///
+/// It refuses a header over its limit (1), a message whose file would have more than 65,536 blocks (9), and an output that is shorter
+/// than the file (15), in this order; neither the engine nor the output is touched then. Else the engine hashes the message from zero,
+/// so that its value is the hash. The engine comes back in any case.
+pub fn write_file<E: Engine>(engine: E, pad: Pad, message: Message, output: &mut [u8]) -> Written<E>
+    ensures answer { result.answer
+        ≡ answer_for (E.subkey_of engine) pad message.entry (length output.old) }
+    ensures output { WritesFile
+        (sealed_file (E.subkey_of engine) pad message.entry.header.now message.entry.body.now)
+        output.old output.new result.answer }
+    ensures reopens { OnOk result.answer
+        (Reopens (E.subkey_of engine) pad message.entry.header.now message.entry.body.now) }
+    ensures engine { HashesIfSealed E.Engine engine message.entry result.engine result.answer }
 {
     let mut engine = engine;
     let answer = hash_for_file(&mut engine, pad, message, output.len());
     if let Ok(sealed) = answer {
-        put_file(output, message, sealed.tag);
+        write_parts(output, message, sealed.digest.tag);
     }
-    Handed { engine, answer }
+    WithEngine { engine, answer }
 }

@@ -3,7 +3,7 @@ use crate::flight::Key;
 use crate::polynomials::accepted;
 use crate::script::{Asked, Script, Step};
 use crate::stop::{Argument, Stop};
-use crate::tagging::print_tag;
+use crate::tagging::print_digest;
 use crate::words::exactly;
 use division::Division;
 use engine::{Pair, Side};
@@ -24,7 +24,6 @@ struct Outcome {
 
 fn print_step(rt: &HostRuntime, part: Part, step: &Step, answer: &Answer) -> io::Result<()> {
     let line = step.line;
-    // A plain match, here and below: what was asked and what came of it are known only at run time.
     match &step.asked {
         Asked::Feed(piece) => print!(rt; "line {line}: {part} {} bytes: ", piece.len())?,
         Asked::Switch => print!(rt; "line {line}: switch: ")?,
@@ -58,13 +57,12 @@ fn print_replay(rt: &HostRuntime, script: &Script, done: &Outcome) -> io::Result
     print_part(rt, Part::Body, &script.body, &done.body)?;
     let header = taken(&script.header, &done.header);
     let body = taken(&script.body, &done.body);
-    // A plain match: what the program calls the two sides is no business of the library.
     let running = match done.closed.engine.running() {
         Side::First => "step",
         Side::Second => "division",
     };
     println!(rt; "closed: {header} bytes of header, {body} of body, the {running} engine runs")?;
-    print_tag(rt, done.closed.hash, done.closed.tag)
+    print_digest(rt, done.closed.digest)
 }
 
 // The calls of a part, and a row as long for their answers.

@@ -1,7 +1,7 @@
 // The commands `seal`, `check`, `list` and `open`: sealed files.
 use crate::flight::{Files, Flight, Key};
 use crate::stop::{Argument, Stop};
-use crate::tagging::print_tag;
+use crate::tagging::print_digest;
 use crate::words::{Hex, exactly};
 use format::{BLOCK_BYTES, LARGEST_FILE, Lengths, blocks_for};
 use message::Message;
@@ -20,7 +20,7 @@ fn say(rt: &HostRuntime, bytes: usize, doing: &str) -> Result<(), Stop> {
     Ok(())
 }
 
-// The bytes that the file of a message takes. Zero and no `Option` where it may not be written: the writer then refuses by itself.
+// The bytes that the file of a message takes, or zero where it is over the limit: the writer then refuses it by its own rule.
 fn file_size(message: Message) -> usize {
     let blocks = blocks_for(message.header.len(), message.body.len());
     let size = blocks.saturating_mul(BLOCK_BYTES);
@@ -46,7 +46,7 @@ fn print_sealed(rt: &HostRuntime, message: Message, out: &str, sealed: Sealed) -
     let blocks = sealed.blocks;
     let bytes = u64::from(blocks).saturating_mul(BLOCK_BYTES as u64);
     println!(rt; "file {out}: {bytes} bytes, {blocks} blocks")?;
-    print_tag(rt, sealed.hash, sealed.tag)
+    print_digest(rt, sealed.digest)
 }
 
 pub(crate) fn seal_files(rt: &HostRuntime, words: &[String]) -> Result<(), Stop> {
@@ -75,7 +75,6 @@ pub(crate) fn check_sealed(rt: &HostRuntime, words: &[String]) -> Result<(), Sto
 }
 
 fn print_record(rt: &HostRuntime, place: u32, record: Record) -> io::Result<()> {
-    // A plain match: which record it is shows only here.
     match record {
         Record::Header(data) => println!(rt; "block {place}: header, {} bytes", data.len()),
         Record::Body(data) => println!(rt; "block {place}: body, {} bytes", data.len()),
@@ -86,7 +85,7 @@ fn print_record(rt: &HostRuntime, place: u32, record: Record) -> io::Result<()> 
 // A line for each record.
 fn print_records(rt: &HostRuntime, file: &[u8]) -> Result<(), Stop> {
     let mut reader = Reader::new(file);
-    // No file has more than 65,536 blocks, and the range shows that the walk ends.
+    // A file has at most 65,536 blocks: by then the reader has said that it is at the end, or why it refuses.
     for place in 0..65_537u32 {
         let Some(item) = reader.next()? else { break };
         print_record(rt, place, item.record)?;

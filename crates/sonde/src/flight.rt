@@ -3,21 +3,21 @@ use crate::stop::{Argument, Stop};
 use engine::Step;
 use field::Block;
 use format::Lengths;
-use message::Message;
+use message::{Message, Pad};
 use reading::read_parts;
 
 // A subkey and a pad, which are always given together.
 #[derive(Clone, Copy)]
 pub(crate) struct Key {
     pub(crate) subkey: Block,
-    pub(crate) pad: Block,
+    pub(crate) pad: Pad,
 }
 
 impl Key {
     pub(crate) fn read(subkey: &str, pad: &str) -> Result<Key, Stop> {
         Ok(Key {
             subkey: Argument::Subkey.parse_block(subkey)?,
-            pad: Argument::Pad.parse_block(pad)?,
+            pad: Pad(Argument::Pad.parse_block(pad)?),
         })
     }
 
@@ -79,8 +79,8 @@ pub(crate) struct Flight {
 }
 
 impl Flight {
+    // One option with its value. The first that is none, or whose value is wrong, stops the command.
     fn take_option(&mut self, name: &str, value: &str) -> Result<(), Stop> {
-        // A plain match: which option it is shows only here.
         match name {
             "--polynomial" => self.proposal = Some(Argument::Proposal.parse_block(value)?),
             "--cut" => self.cuts.push(Argument::Number.parse_number(value)?)?,
@@ -91,7 +91,6 @@ impl Flight {
 
     // Options, each with its value.
     fn take_options(&mut self, options: &[String]) -> Result<(), Stop> {
-        // No fold: each option changes the flight, and may be wrong.
         for option in options.chunks(2) {
             let [name, value] = option else {
                 return Err(Stop::NoOption);

@@ -4,7 +4,7 @@ use crate::words::exactly;
 use field::{Block, Element};
 use polynomial::{Accepted, Binary, Trial, make_polynomial, try_polynomial};
 
-// The maker's polynomial. A function here and below, since the library keeps no scratch of its own.
+// The maker's polynomial, in a scratch of its own.
 pub(crate) fn make_block(subkey: Block) -> Result<Block, Stop> {
     let mut scratch = [Block::zero(); 128];
     Ok(make_polynomial(subkey, &mut scratch)?)

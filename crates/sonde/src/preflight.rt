@@ -11,7 +11,7 @@ use division::Division;
 use engine::{Engine, Pair, Side, Step};
 use field::Block;
 use job::{BodyJob, Closed, HeaderJob};
-use message::{Digest, Found, Message, Part, block_of, block_of_byte_counts};
+use message::{Digest, Found, Message, Pad, Part, Tag, block_of, block_of_byte_counts};
 use polynomial::Accepted;
 use refusal::Refusal;
 use sealed::check_file;
@@ -42,10 +42,10 @@ fn try_flight(rt: &HostRuntime, flight: &Flight) -> Result<Accepted<Block>, Stop
     Ok(trial.polynomial())
 }
 
-// A job with the body cut in two, and a switch asked for between. The pad stays apart from the engine, as in a job.
+// A job with the body cut in two, and a switch asked for between.
 fn cut_job<E: Engine + Drop>(
     engine: E,
-    pad: Block,
+    pad: Pad,
     message: Message,
     at: usize,
 ) -> Result<Closed<E>, Refusal> {
@@ -102,7 +102,7 @@ fn hash_flight(rt: &HostRuntime, flight: &Flight) -> Result<Digest, Stop> {
     let message = flight.files.message();
     let tagged = tag_message(&mut key.step(), key.pad, message)?;
     let closed = cut_job(key.step(), key.pad, message, message.body.len())?;
-    Check::Job.holds(closed.hash == tagged.hash)?;
+    Check::Job.holds(closed.digest.hash == tagged.hash)?;
     Check::Finder.holds(found_hash(key.subkey, message) == tagged.hash)?;
     println!(rt;
         "{}: ok, job, one-shot and finder give {}",
@@ -117,8 +117,6 @@ fn blocks_join(message: Message) -> bool {
     let mut header = 0usize;
     let mut body = 0usize;
     for found in Blocks::of(message) {
-        // Not two walks, one for each part, since a block says its part only when it is found; and no `try_fold`, which would carry
-        // both ends and the part through its closure.
         let end = match found.part {
             Part::Header => &mut header,
             Part::Body => &mut body,
@@ -150,14 +148,14 @@ fn places(rt: &HostRuntime, flight: &Flight) -> Result<Vec<usize>, Stop> {
 }
 
 // Whether the body cut in two at a place gives the same tag.
-fn try_cut(key: Key, message: Message, at: usize, tag: Block) -> Result<(), Stop> {
+fn try_cut(key: Key, message: Message, at: usize, tag: Tag) -> Result<(), Stop> {
     Check::CutPastEnd.holds(at <= message.body.len())?;
     let closed = cut_job(key.step(), key.pad, message, at)?;
-    Check::Cut.holds(closed.tag == tag)?;
+    Check::Cut.holds(closed.digest.tag == tag)?;
     Ok(())
 }
 
-fn try_cuts(flight: &Flight, places: &[usize], tag: Block) -> Result<(), Stop> {
+fn try_cuts(flight: &Flight, places: &[usize], tag: Tag) -> Result<(), Stop> {
     let message = flight.files.message();
     for at in places {
         try_cut(flight.key, message, *at, tag)?;
@@ -167,7 +165,7 @@ fn try_cuts(flight: &Flight, places: &[usize], tag: Block) -> Result<(), Stop> {
 }
 
 // 3: the body cut in two at each place.
-fn cut_flight(rt: &HostRuntime, flight: &Flight, tag: Block) -> Result<(), Stop> {
+fn cut_flight(rt: &HostRuntime, flight: &Flight, tag: Tag) -> Result<(), Stop> {
     let places = places(rt, flight)?;
     try_cuts(flight, &places, tag)?;
     println!(rt;
@@ -184,12 +182,12 @@ fn try_switch(
     polynomial: Accepted<Block>,
     message: Message,
     at: usize,
-    tag: Block,
+    tag: Tag,
 ) -> Result<(), Stop> {
     let pair = Pair::new(key.step(), Division::new(polynomial));
     let closed = cut_job(pair, key.pad, message, at)?;
     Check::Runs.holds(closed.engine.running() == Side::Second)?;
-    Check::Switch.holds(closed.tag == tag)?;
+    Check::Switch.holds(closed.digest.tag == tag)?;
     Ok(())
 }
 

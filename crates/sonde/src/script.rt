@@ -34,7 +34,7 @@ pub(crate) enum LineFault {
     NoMemory(#[from(alloc)] AllocError),
 }
 
-// No `Option` of a piece: a switch is a call, and no piece that is missing.
+// What is asked of the job: that it takes a piece, or that the engines switch.
 #[derive(Drop)]
 pub(crate) enum Asked {
     Feed(Vec<u8>),
@@ -60,7 +60,7 @@ impl Step {
         }
     }
 
-    // How many bytes it feeds. No `From` here and above: a step is more than its call.
+    // How many bytes it feeds.
     pub(crate) fn bytes(&self) -> u64 {
         match &self.asked {
             Asked::Feed(piece) => piece.len() as u64,
@@ -96,7 +96,6 @@ fn piece_of_word(rt: &HostRuntime, word: &str) -> Result<Vec<u8>, LineFault> {
 // The bytes of the words that follow a feed's name, joined.
 fn piece_words(rt: &HostRuntime, words: &str) -> Result<Vec<u8>, LineFault> {
     let mut piece = Vec::new(rt.alloc());
-    // No `try_fold`: each step may fail in three ways, and joins what it read to the piece.
     for word in words.split_whitespace() {
         piece.extend_from_slice(&piece_of_word(rt, word)?)?;
     }
@@ -105,7 +104,6 @@ fn piece_words(rt: &HostRuntime, words: &str) -> Result<Vec<u8>, LineFault> {
 
 impl Line {
     fn named(rt: &HostRuntime, name: &str, words: &str) -> Result<Line, LineFault> {
-        // A plain match: which call it is shows only here.
         match name {
             "header" => Ok(Line::Header(piece_words(rt, words)?)),
             "body" => Ok(Line::Body(piece_words(rt, words)?)),
@@ -145,7 +143,7 @@ struct Reading {
 }
 
 impl Reading {
-    // What the line asks, where it may stand there. A plain match: both are known only at run time.
+    // What the line asks, where it may stand there.
     fn take(&mut self, number: usize, line: Line) -> Result<(), LineFault> {
         match (self.stage, line) {
             (Stage::Header, Line::Header(piece)) => self
@@ -176,7 +174,6 @@ impl Reading {
 
     // Every line, or the first that is wrong. Lines are counted from 1.
     fn take_lines(&mut self, rt: &HostRuntime, text: &str) -> Result<(), Stop> {
-        // No fold: each line changes what was read, and may be wrong.
         for (line, text) in (1usize..).zip(text.lines()) {
             self.take_text(rt, line, text)
                 .map_err(|fault| Stop::BadLine { line, fault })?;

@@ -21,7 +21,7 @@ pub(crate) enum Argument {
     Out,
 }
 
-// By hand: the derive of `Error` is for faults, and an argument is none.
+// The name in the usage text.
 impl fmt::Display for Argument {
     fn fmt<W: fmt::Write>(&self, f: &mut fmt::Formatter<W>) -> fmt::Result {
         f.write_str(match self {
@@ -46,7 +46,7 @@ pub(crate) enum BadWord {
     Bytes(HexFault),
 }
 
-// By hand: one part of the text stands with some faults only.
+// The fault, and after a wrong count of digits what was wanted.
 impl fmt::Display for BadWord {
     fn fmt<W: fmt::Write>(&self, f: &mut fmt::Formatter<W>) -> fmt::Result {
         let (fault, wanted) = match self {
@@ -73,7 +73,7 @@ pub(crate) enum Check {
     ReadBack,
 }
 
-// By hand: a text alone, with nothing in it to lay out.
+// What was found to be wrong.
 impl fmt::Display for Check {
     fn fmt<W: fmt::Write>(&self, f: &mut fmt::Formatter<W>) -> fmt::Result {
         f.write_str(match self {

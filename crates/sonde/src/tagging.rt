@@ -2,14 +2,13 @@
 use crate::flight::{Files, Key};
 use crate::stop::Stop;
 use crate::words::exactly;
-use field::Block;
 use message::{Digest, Message};
 use std::io;
 use tag::tag_message;
 
 // The two lines that end what is told of a hashed message.
-pub(crate) fn print_tag(rt: &HostRuntime, hash: Block, tag: Block) -> io::Result<()> {
-    println!(rt; "hash {hash}\ntag {tag}")
+pub(crate) fn print_digest(rt: &HostRuntime, digest: Digest) -> io::Result<()> {
+    println!(rt; "hash {}\ntag {}", digest.hash, digest.tag.0)
 }
 
 // What is told of two files by their names. It owns nothing, so that each line may fail at no cost.
@@ -22,8 +21,8 @@ fn print_tagged(
 ) -> io::Result<()> {
     println!(rt; "header {header}: {} bytes", message.header.len())?;
     println!(rt; "body {body}: {} bytes", message.body.len())?;
-    println!(rt; "blocks {}", digest.blocks)?;
-    print_tag(rt, digest.hash, digest.tag)
+    println!(rt; "blocks {}", message.count_blocks())?;
+    print_digest(rt, digest)
 }
 
 pub(crate) fn tag_files(rt: &HostRuntime, words: &[String]) -> Result<(), Stop> {

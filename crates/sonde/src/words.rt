@@ -34,7 +34,7 @@ impl Argument {
         })
     }
 
-    // A word of any even count of digits. Not one with the above: the fault says which of the two was wanted.
+    // A word of any even count of digits.
     pub(crate) fn parse_bytes(self, rt: &HostRuntime, word: &str) -> Result<Vec<u8>, Stop> {
         let mut bytes = row_for(rt, word)?;
         parse_bytes(word, &mut bytes).map_err(|fault| Stop::BadHex {
@@ -66,7 +66,7 @@ impl Argument {
         read.map_err(|error| self.no_file(error))
     }
 
-    // A file's text. Not one with the above: it is checked to be text.
+    // A file's text, which is UTF-8.
     pub(crate) fn read_text(self, rt: &HostRuntime, path: &str) -> Result<String, Stop> {
         fs::read_to_string(rt, path).map_err(|error| self.no_file(error))
     }

@@ -1,13 +1,10 @@
 -- Bytes compared by the bits in which they differ.
-use Rattle.std.proofs.Common.{◌≡◌, ◌≤◌, ℕ, Bool, true, false, ◌&&◌, eqb, List, [], ◌∷◌, fold, zip, length, take, refl, ap, ◌∙◌, ap₂, arith, rules, eq-eqb, ne_eqb, eqb-true}
+use Rattle.std.proofs.Common.{◌≡◌, ◌≤◌, ℕ, Bool, true, false, ◌&&◌, eqb, List, [], ◌∷◌, fold, zip, length, refl, ap, ◌∙◌, ap₂, arith, rules, eq-eqb, ne_eqb, eqb-true}
 use borrow.Author.Tests.{eqb-false}
 use lib.Bits.{bit_or, bit_xor, and_le_l, and_le_r, or_add_and, xor_add_and, xor_self, or_zero_l}
-use Rattle.std.specs.Str.{bytes_eq}
+use Rattle.std.specs.List.{starts_with}
 
--- the second list begins with the first
-abbrev pub begun : List ℕ → List ℕ → Bool
-begun xs ys = bytes_eq xs (take (length xs) ys)
-
+-- numbers that are zero and equal, from an or of no bits
 no_bits : (d x y : ℕ) → bit_or d (bit_xor x y) ≡ 0 → (d ≡ 0) × (x ≡ y)
 no_bits d x y none =
     let or = or_add_and d (bit_xor x y) in
@@ -34,7 +31,7 @@ abbrev pub with_pair : ℕ → ℕ × ℕ → ℕ
 with_pair d p = bit_or d (bit_xor p.0 p.1)
 
 -- no bit is left where the second list begins with the first
-pub gathered : (d : ℕ) (xs ys : List ℕ) → length xs ≤ length ys → eqb (fold with_pair d (zip xs ys)) 0 ≡ (eqb d 0 && begun xs ys)
-gathered d [] ys enough = search rules
-gathered d (x ∷ xs) [] enough = absurd (omega arith)
-gathered d (x ∷ xs) (y ∷ ys) enough = gathered (bit_or d (bit_xor x y)) xs ys (omega arith) ∙ one_more d x y (begun xs ys)
+pub fold-with_pair : (d : ℕ) (xs ys : List ℕ) → length xs ≤ length ys → eqb (fold with_pair d (zip xs ys)) 0 ≡ (eqb d 0 && starts_with eqb ys xs)
+fold-with_pair d [] ys enough = search rules
+fold-with_pair d (x ∷ xs) [] enough = absurd (omega arith)
+fold-with_pair d (x ∷ xs) (y ∷ ys) enough = fold-with_pair (bit_or d (bit_xor x y)) xs ys (omega arith) ∙ one_more d x y (starts_with eqb ys xs)

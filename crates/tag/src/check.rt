@@ -1,52 +1,40 @@
-// The tag of a whole message, and the check of a tag.
-ghost use Rattle.std.specs.Prelude.{◌≡◌, IfOk, MatchResult};
-ghost use Rattle.message.specs.Answer.{answer};
-ghost use Rattle.message.specs.Standard.{MeetsStandard};
-ghost use Rattle.tag.specs.Tags.{CheckRan, Ran, check_answer};
+// The check of a tag that came with a message.
+//
+// A tag may be sent cut short, so what is given is compared with as many first bytes of the message's own tag (NIST SP 800-38D,
+// section 7.2). Its length is looked at before the message is hashed.
+ghost use Rattle.std.specs.Prelude.{◌≡◌};
+ghost use Rattle.tag.specs.Tags.{ChecksTag};
 
 use crate::compare::begins_with;
-use crate::hash::hash_message;
+use crate::tagging::tag_message;
 use engine::Engine;
-use field::{Block, Element};
-use message::{Digest, Message};
+use message::{Message, Pad};
 use refusal::Refusal;
 
-// The pad stays apart from the message and the engine: a job takes it only at its close, and an engine holds the subkey.
-// Hash and tag of a header and a body under the engine's subkey. A refusal comes before the engine is touched.
-// It stays beside `Message::hash_and_tag`, the plain recursion below any engine that engines are compared with.
-pub fn tag_message<E: Engine>(
-    engine: &mut E,
-    pad: Block,
-    message: Message,
-) -> Result<Digest, Refusal>
-    ensures answer { result ≡ answer (E.subkey_of engine.old) pad message.entry.header.now message.entry.body.now }
-    ensures standard { IfOk result (λ t. MeetsStandard (E.subkey_of engine.old) pad message.entry.header.now message.entry.body.now t.hash t.tag) }
-    ensures engine { MatchResult result (λ _. Ran E.Engine engine.old message.entry.header.now message.entry.body.now engine.new) (λ _. engine.new ≡ engine.old) }
-{
-    message.check_lengths()?;
-    let hash = hash_message(engine, message);
-    Ok(Digest {
-        hash,
-        tag: hash.plus(pad),
-        blocks: message.count_blocks(),
-    })
-}
+// The fewest bytes of a tag that are compared: NIST SP 800-38D, section 5.2.1.2, allows no tag under 32 bits.
+const SHORTEST: usize = 4;
 
-// Accepts 4 to 16 bytes that the tag of the header and the body begins with. The pad stays apart from the engine, as above.
+// The most bytes, which are all of a tag.
+const LONGEST: usize = 16;
+
+/// Compares a given tag of 4 to 16 bytes with as many first bytes of the message's tag, under the engine's subkey and a pad.
+///
+/// Refuses a given tag of another length (7), then a header over its limit (1) and a body over its limit (2), all before the engine
+/// is touched, and at last a tag that differs (8). The comparison looks at every given byte, wherever the first difference stands.
 pub fn check_tag<E: Engine>(
     engine: &mut E,
-    pad: Block,
+    pad: Pad,
     message: Message,
     given: &[u8],
 ) -> Result<(), Refusal>
-    ensures answer { result ≡ check_answer (E.subkey_of engine.old) pad message.entry.header.now message.entry.body.now given.now }
-    ensures engine { CheckRan E.Engine engine.old message.entry.header.now message.entry.body.now engine.new result }
+    ensures { ChecksTag E.Engine engine.old pad
+        message.entry.header.now message.entry.body.now given.now engine.new result }
 {
-    if given.len() < 4 || given.len() > 16 {
+    if given.len() < SHORTEST || given.len() > LONGEST {
         return Err(Refusal::TagLength);
     }
     let digest = tag_message(engine, pad, message)?;
-    if !begins_with(digest.tag.to_bytes(), given) {
+    if !begins_with(digest.tag, given) {
         return Err(Refusal::TagDiffers);
     }
     Ok(())

@@ -4,5 +4,7 @@
 mod check;
 mod compare;
 mod hash;
+mod tagging;
 
-pub use check::{check_tag, tag_message};
+pub use check::check_tag;
+pub use tagging::{tag_checked, tag_message};

@@ -5,7 +5,7 @@ use crate::jobs::print_jobs;
 use crate::trials::print_made;
 use field::Block;
 use hexadecimal::{parse_block, parse_bytes};
-use message::{Digest, Message};
+use message::{Digest, Message, Pad, Tag};
 use std::alloc::Global;
 
 // What a case hashes, and by which key.
@@ -14,10 +14,9 @@ pub(crate) struct Case {
     pub(crate) subkey: Block,
     pub(crate) header: Vec<u8>,
     pub(crate) body: Vec<u8>,
-    pub(crate) pad: Block,
+    pub(crate) pad: Pad,
     // What is published of it.
-    hash: Block,
-    pub(crate) tag: Block,
+    pub(crate) digest: Digest,
 }
 
 // A header or a body, where - stands for an empty one.
@@ -46,9 +45,11 @@ impl Case {
             subkey,
             header: read_part(heap, header)?,
             body: read_part(heap, body)?,
-            pad,
-            hash,
-            tag,
+            pad: Pad(pad),
+            digest: Digest {
+                hash,
+                tag: Tag(tag),
+            },
         })
     }
 
@@ -63,14 +64,15 @@ impl Case {
 // Prints what a case gives, by engines and by jobs too where more is asked for, and a polynomial for its subkey; answers whether
 // hash and tag are as published.
 fn print_case(rt: &HostRuntime, number: &str, case: &Case, more: bool) -> Result<bool, Fault> {
-    let Digest { hash, tag, .. } = case.message().hash_and_tag(case.subkey, case.pad)?;
-    // Part by part: a published case gives no count of blocks, which a digest has.
-    let same = hash == case.hash && tag == case.tag;
+    let digest = case.message().hash_and_tag(case.subkey, case.pad)?;
+    let same = digest == case.digest;
     let verdict = if same { "as published" } else { "DIFFERS" };
-    println!(rt; "case {number}: hash {hash} tag {tag} {verdict}")?;
+    println!(rt;
+        "case {number}: hash {} tag {} {verdict}",
+        digest.hash, digest.tag.0
+    )?;
     print_made(rt, case.subkey)?;
-    print_engines(rt, case, hash)?;
-    // What is asked for is known only at run time.
+    print_engines(rt, case, digest.hash)?;
     if more {
         print_jobs(rt, case)?;
     }

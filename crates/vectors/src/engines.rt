@@ -12,7 +12,6 @@ use std::iter;
 // The hash of some blocks, with a switch asked for after every `every` of them.
 pub(crate) fn hash<E: Engine>(engine: &mut E, blocks: &[Block], every: usize) -> Block {
     engine.resume(Block::zero());
-    // No `chunks(every)`: after a last piece that is shorter no switch is asked for.
     for (at, block) in blocks.iter().enumerate() {
         engine.absorb(*block);
         if at.saturating_add(1).is_multiple_of(every) {
@@ -80,7 +79,6 @@ pub(crate) fn print_long(rt: &HostRuntime, subkey: Block) -> Result<(), Fault> {
     let blocks: Vec<Block> = (0..300u32)
         .map(|k| Block::new(u128::from(k)))
         .collect(rt.alloc())?;
-    // The number is what is tried, no index.
     for every in 126..130usize {
         let hashes = Hashes::of(subkey, &blocks, every)?;
         let verdict = verdict(hashes.all(hashes.step));

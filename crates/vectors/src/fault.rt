@@ -21,7 +21,7 @@ pub(crate) enum Fault {
     Differs,
 }
 
-// By hand: the derive's `#[from]` would put the error into the variant, and `main` prints the variant as it stands.
+// The variant holds nothing, since `main` prints it as it stands.
 impl From<AllocError> for Fault {
     fn from(_error: AllocError) -> Fault {
         Fault::NoMemory

@@ -3,14 +3,14 @@ use crate::fault::Fault;
 use engine::Step;
 use field::{Block, Element};
 use format::{BLOCK_BYTES, DATA_BYTES, LARGEST_FILE, Lengths, MOST_BLOCKS};
-use message::Message;
+use message::{Message, Pad};
 use sealed::{check_file, write_file};
 use std::alloc::Global;
 
 // The largest body of a file with no header: 65,535 full blocks.
 const LARGEST_BODY: usize = (MOST_BLOCKS - 1) * DATA_BYTES;
 
-// The blocks of the file that seals so many zeros, once it was checked. Two lengths, and no struct: two rows of zeros are made of them.
+// The blocks of the file that seals so many zeros, once it was checked.
 fn sealed_blocks(heap: Global, header: usize, body: usize) -> Result<u32, Fault> {
     let header = vec![in heap; 0u8; header]?;
     let body = vec![in heap; 0u8; body]?;
@@ -20,7 +20,7 @@ fn sealed_blocks(heap: Global, header: usize, body: usize) -> Result<u32, Fault>
         header: &header,
         body: &body,
     };
-    let sealed = write_file(step, Block::zero(), message, &mut file).answer?;
+    let sealed = write_file(step, Pad(Block::zero()), message, &mut file).answer?;
     // How much of the largest file it is, which the writer answers in blocks.
     let size = (sealed.blocks as usize)
         .saturating_mul(BLOCK_BYTES)
@@ -30,14 +30,14 @@ fn sealed_blocks(heap: Global, header: usize, body: usize) -> Result<u32, Fault>
         body: body.len() as u64,
     };
     let step = Step::new(Block::one());
-    let lengths = check_file(step, Block::zero(), &file[..size]).answer?;
+    let lengths = check_file(step, Pad(Block::zero()), &file[..size]).answer?;
     if lengths != wanted {
         return Err(Fault::Differs);
     }
     Ok(sealed.blocks)
 }
 
-// Two lengths, and no struct, as above.
+// What comes of writing and checking such a file: its size, or the refusal.
 fn print_file(rt: &HostRuntime, header: usize, body: usize) -> Result<(), Fault> {
     print!(rt; "file of header {header} and body {body}: ")?;
     match sealed_blocks(rt.alloc(), header, body) {

@@ -7,7 +7,7 @@ use division::Division;
 use engine::{Engine, Pair, Step};
 use field::{Block, Element};
 use job::{Call, Calls, Closed, difference_of_runs, replay};
-use message::Message;
+use message::{Message, Pad};
 use polynomial::Accepted;
 use std::alloc::{AllocError, Global};
 
@@ -40,7 +40,7 @@ struct Feeding {
     heap: Global,
     // How many bytes a piece has.
     cut: usize,
-    pad: Block,
+    pad: Pad,
 }
 
 impl Feeding {
@@ -74,14 +74,14 @@ impl Case {
         let pairs = Pair::new(Pair::new(division(), step()), Pair::new(step(), division()));
         let by_pair = feeding.close(pair, self.message())?;
         let by_pairs = feeding.close(pairs, self.message())?;
-        Ok(by_pair.tag == self.tag && by_pairs.tag == self.tag)
+        Ok(by_pair.digest == self.digest && by_pairs.digest == self.digest)
     }
 
     // By how much the hashes of the body and of its complement differ, each fed in pieces of its own.
     fn difference(&self, heap: Global) -> Result<Block, AllocError> {
         let other: Vec<u8> = self.body.iter().map(|byte| !*byte).collect(heap)?;
         let complement = message_of(&self.header, &other);
-        let pad = Block::zero();
+        let pad = Pad(Block::zero());
         let first = Feeding { heap, cut: 16, pad }.pieces(self.message())?;
         let second = Feeding { heap, cut: 5, pad }.pieces(complement)?;
         let step = || Step::new(self.subkey);
@@ -106,7 +106,6 @@ pub(crate) fn print_jobs(rt: &HostRuntime, case: &Case) -> Result<(), Fault> {
     let heap = rt.alloc();
     let polynomial = accepted(case.subkey)?;
     let mut agree = case.difference_agrees(heap)?;
-    // No `all`: each cut may fail for want of memory.
     for cut in CUTS {
         let pad = case.pad;
         let feeding = Feeding { heap, cut, pad };

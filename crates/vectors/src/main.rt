@@ -13,6 +13,7 @@ use engines::print_long;
 use fault::Fault;
 use field::{Block, Element};
 use files::print_files;
+use message::Pad;
 use readings::{Readings, take_readings};
 use std::{env, io};
 use trials::print_trials;
@@ -34,7 +35,6 @@ impl Score {
 // Every line of the input that is no comment is a case.
 fn compare_all(rt: &HostRuntime, more: bool) -> Result<Score, Fault> {
     let mut score = Score::default();
-    // No fold: each line prints, and may be no case.
     for line in rt.lines(rt.alloc()) {
         let line = line?;
         if !line.starts_with('#') {
@@ -68,11 +68,10 @@ fn run(rt: &HostRuntime) -> Result<(), Fault> {
     println!(rt; "{agreeing} of {cases} cases as published")?;
     print_long(rt, Block::new(0x66e9_4bd4_ef8a_2c3b_884c_fa59_ca34_2b2e))?;
     print_trials(rt)?;
-    // What is asked for is known only at run time.
     if more {
         print_files(rt)?;
     }
-    print_readings(rt, &take_readings(Block::one(), Block::new(0xff))?)?;
+    print_readings(rt, &take_readings(Block::one(), Pad(Block::new(0xff)))?)?;
     if agreeing != cases {
         return Err(Fault::Differs);
     }

@@ -3,7 +3,7 @@ use Rattle.field.specs.Digits.{numeral}
 use Rattle.field.proofs.Horner.{eval_from_zero}
 use Rattle.field.specs.Evaluation.{eval_from}
 use Rattle.field.specs.Kinds.{block_ring}
-use Rattle.field.specs.declared.kinds.Block.{Block}
+use Rattle.field.specs.declared.block.Block.{Block}
 use Rattle.field.specs.Instances.{same_block, block_ring_laws}
 use Rattle.readings.specs.Table.{first, last}
 use Rattle.readings.proofs.Rows.{table}

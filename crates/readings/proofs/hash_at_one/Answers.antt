@@ -1,15 +1,17 @@
-use Rattle.std.proofs.Common.{◌≡◌, sym, refl, ap, ◌∙◌}
+use Rattle.std.proofs.Common.{◌≡◌, ℕ, List, sym, refl, ap, ◌∙◌, ap₂}
 use Rattle.field.specs.Digits.{numeral}
-use Rattle.field.specs.declared.kinds.Block.{Block}
+use Rattle.field.specs.declared.block.Block.{Block}
 use Rattle.field.specs.Instances.{same_block}
-use Rattle.message.specs.Answer.{answer}
+use Rattle.message.specs.Answer.{digest_answer}
 use Rattle.readings.specs.Table.{first, hash_in}
 use Rattle.readings.proofs.hash_at_one.Goals as goal
 
 pub returns : goal.returns
 unfolding numeral
 returns c =
-    let one : c.one-one.result ≡ first 0x80 = c.one-one.ensures ∙ same_block _ _ refl in
+    let header : List ℕ = c.args.message.header.now in
+    let body : List ℕ = c.args.message.body.now in
+    let one : c.one.result ≡ first 0x80 = c.one.ensures ∙ same_block _ _ refl in
     ap hash_in
-    (sym c.in_ok-hash_and_tag.was ∙ c.hash_and_tag.ensures.value
-    ∙ ap (λ (b : Block). answer b b c.args.message.header.now c.args.message.body.now) one)
+    (sym c.in_ok-digest.was ∙ c.hash_and_tag.ensures.value
+    ∙ ap₂ (λ (h p : Block). digest_answer h (record { 0 = p }) header body) one c.zero.ensures)

@@ -4,4 +4,4 @@ use Rattle.readings.proofs.Rows.{table}
 use Rattle.readings.proofs.nibble_product.Goals as goal
 
 pub returns : goal.returns
-returns c = c.times.ensures ∙ ap₂ nibble_ring.product c.new.ensures c.new-2.ensures ∙ table.nibble_product_row
+returns c = c.mul.ensures ∙ ap₂ nibble_ring.product c.new.ensures c.new-2.ensures ∙ table.nibble_product_row

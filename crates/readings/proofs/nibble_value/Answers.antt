@@ -3,7 +3,7 @@ use Rattle.field.proofs.Horner.{eval_from_zero}
 use Rattle.field.specs.Evaluation.{eval_from}
 use Rattle.field.specs.Instances.{nibble_ring_laws}
 use Rattle.field.specs.Kinds.{nibble, nibble_ring}
-use Rattle.field.specs.declared.kinds.Nibble.{Nibble}
+use Rattle.field.specs.declared.nibble.Nibble.{Nibble}
 use Rattle.readings.proofs.Rows.{table}
 use Rattle.readings.proofs.nibble_value.Goals as goal
 

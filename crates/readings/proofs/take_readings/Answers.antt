@@ -1,7 +1,8 @@
 use Rattle.std.proofs.Common.{◌≡◌, [], ◌∷◌, Ok, Result, ap, ◌∙◌}
-use Rattle.field.specs.declared.kinds.Block.{Block}
+use Rattle.field.specs.declared.block.Block.{Block}
 use Rattle.message.specs.Hash.{hash_of}
 use Rattle.message.specs.declared.digest.Digest.{Digest}
+use Rattle.message.specs.declared.digest.Pad.{Pad}
 use Rattle.refusal.specs.declared.Refusal.{Refusal}
 use Rattle.readings.specs.Table.{first}
 use Rattle.readings.specs.declared.Readings.{Readings}
@@ -21,12 +22,12 @@ done r = Ok r
 pub returns : goal.returns
 returns c =
     let subkey : Block = c.args.subkey in
-    let pad : Block = c.args.pad in
+    let pad : Pad = c.args.pad in
     let empty = inside_digest c.in_ok-digest.digest _ c.in_ok-digest.ensures.value in
     let body = inside c.in_ok-hash_at_one.field-0 (hash_of (first 0x80) [] (0x80 ∷ [])) c.in_ok-hash_at_one.ensures ∙ table.body_only_row in
     let header = inside c.in_ok-hash_at_one-2.field-0 (hash_of (first 0x80) (0x80 ∷ []) []) c.in_ok-hash_at_one-2.ensures ∙ table.header_only_row in
     let hash = ap (λ (d : Digest). d.hash) empty ∙ table.empty_hash_row subkey in
-    let tag = ap (λ (d : Digest). d.tag) empty ∙ table.empty_tag_row subkey pad in
+    let tag = ap (λ (d : Digest). d.tag.0) empty ∙ table.empty_tag_row subkey pad in
     record {
       table = table;
       value = ap done (λ i. record {

@@ -1,6 +1,6 @@
 use Rattle.std.proofs.Common.{rules}
-use Rattle.field.proofs.Turns.{masked_part}
+use Rattle.field.proofs.Turns.{mask-times_bit}
 use Rattle.field.proofs.binary.masked.Goals as goal
 
 pub returns : goal.returns
-returns c = masked_part c.args.bit c.args.value 128 c.requires (search rules)
+returns c = mask-times_bit c.args.bit c.args.value 128 c.requires (search rules)

@@ -5,4 +5,4 @@ use Rattle.logger.proofs.scratch.try_in.Goals as goal
 
 -- a weight is small
 pub overflow_cast-result : goal.overflow_cast-result
-overflow_cast-result c = omega (arith, c.in_ok-trial.ensures.value.4, ones_at_most 128 (coefficients_of c.args.proposal))
+overflow_cast-result c = omega (arith, c.in_ok-trial.ensures.value.counted, ones_at_most 128 (coefficients_of c.args.proposal))

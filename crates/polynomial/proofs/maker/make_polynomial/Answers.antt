@@ -9,12 +9,13 @@ returns-then-scratch-width-clause-factors g c = λ point n. conjugates_value g.K
 pub returns-clause-value : goal.returns-clause-value
 returns-clause-value g c =
     rw c.ok_or.ensures.value
-    (found_made g.K.Element g.K.Binary.width g.K.Binary.bits c.args.subkey _ c.find_bits.result (omega (arith, c.width.ensures)) c.find_bits.ensures.value)
+    (found_made g.K.Element g.met.K.Element.ring g.K.Binary c.args.subkey _ c.find_bits.result
+    (omega (arith, c.width.ensures)) c.find_bits.ensures.value)
 
 pub returns-clause-annihilates : goal.returns-clause-annihilates
 returns-clause-annihilates g c =
     rw c.ok_or.ensures.value
-    (found_annihilates g.K.Element g.K.Binary.width g.K.Binary.bits c.args.subkey g.met.K.Element.ring g.met.K.Binary.even g.met.K.Binary.wide
+    (found_annihilates g.K.Element g.met.K.Element.ring g.K.Binary c.args.subkey g.met.K.Binary.laws
     c.find_bits.result c.find_bits.ensures.value)
 
 pub returns-clause-factors : goal.returns-clause-factors

@@ -1,7 +1,7 @@
 use Rattle.std.proofs.Common.{ℕ, ◌+◌, ◌<◌, List, length, sym, ap, ◌∙◌, subst, refl, arith}
 use Rattle.std.proofs.lemmas.List.FromFn.{fill_by_all}
 use Rattle.std.proofs.lemmas.List.{get_or_read}
-use Rattle.polynomial.specs.Polynomials.{stored, element}
+use Rattle.polynomial.specs.Polynomials.{coefficient_list, element}
 use Rattle.polynomial.proofs.Reading.{ReadTo, read_zero, read_one, one_from_sum, sum_from_one}
 use Rattle.polynomial.proofs.maker.read_bits.Goals as goal
 use Rattle.polynomial.proofs.maker.read_bits.Goals.{then-not-is_zero+else-not-is_zero-2, else-not-is_zero}
@@ -9,14 +9,14 @@ use Rattle.polynomial.proofs.maker.read_bits.Goals.{then-not-is_zero+else-not-is
 pub loop-k-init : goal.loop-k-init
 loop-k-init g c = (
   λ j early. absurd (omega arith),
-  λ j late. ap (λ p. g.K.Binary.bits p j) c.zero-proposal.ensures ∙ g.met.K.Binary.blank j,
+  λ j late. ap (λ p. g.K.Binary.bits p j) c.zero-proposal.ensures ∙ g.met.K.Binary.laws.blank j,
 )
 
 pub loop-k-preserved : goal.loop-k-preserved
 loop-k-preserved g c =
     let m = g.K.Element in
     let ring = g.met.K.Element.ring in
-    let even = g.met.K.Binary.even in
+    let even = g.met.K.Binary.laws.even in
     let xs : List g.row.K.Denot = c.args.coefficients.now in
     let k : ℕ = c.loop-k.k in
     let within : k < length xs = omega arith in
@@ -46,11 +46,11 @@ returns-then-not-is_zero-2 g c =
       λ zero. c.if-not-is_zero.ensures (read ∙ zero),
       λ one. c.if-not-is_zero-2.ensures
           (c.plus.ensures ∙ ap (m.sum c.index-coefficients-k.result) c.one.ensures
-          ∙ sum_from_one m g.met.K.Element.ring g.met.K.Binary.even c.index-coefficients-k.result (read ∙ one)),
+          ∙ sum_from_one m g.met.K.Element.ring g.met.K.Binary.laws.even c.index-coefficients-k.result (read ∙ one)),
     )
 
 pub returns : goal.returns
-unfolding stored
+unfolding coefficient_list
 returns g c =
     let m = g.K.Element in
     let xs : List g.row.K.Denot = c.args.coefficients.now in

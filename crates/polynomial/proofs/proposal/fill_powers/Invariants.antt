@@ -3,6 +3,7 @@ use Rattle.std.specs.List.{range_with_len}
 use Rattle.field.specs.Evaluation.{power}
 use Rattle.polynomial.proofs.proposal.fill_powers.Given as goal
 
+-- the next power, and the powers so far before what is not written yet
 abbrev pub invariant-loop-power : goal.invariant-loop-power
 invariant-loop-power g l =
     (l.next ≡ power g.E.Element l.key l.power-index)

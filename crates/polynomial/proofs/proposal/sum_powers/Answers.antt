@@ -2,7 +2,7 @@ use Rattle.std.proofs.Common.{◌≡◌, ℕ, Bool, List, filter, fold, length, 
 use Rattle.std.specs.List.{enumerate_from}
 use Rattle.std.proofs.lemmas.Iterator.{YieldsList-from_slice}
 use Rattle.std.proofs.lemmas.Iterator.Consumers.{YieldsList-at, YieldsList-from_enumerate, YieldsList-from_filter, fold_from_yields_List}
-use Rattle.polynomial.proofs.Values.{stored_value}
+use Rattle.polynomial.proofs.Values.{coefficients_value}
 use Rattle.polynomial.proofs.proposal.sum_powers.Goals as goal
 
 pub returns : goal.returns
@@ -17,4 +17,4 @@ returns g c = λ key powers.
     (YieldsList-at c.filter.ensures.source (YieldsList-from_enumerate (YieldsList-from_slice c.args.powers.now (cc)) (cc)))
     c.filter.ensures.closure (λ x b q k. search rules))
     (λ sum x r q k. search rules) in
-    folded ∙ ap₂ summed c.zero.ensures powers ∙ stored_value m g.met.K.Element.ring bits key (length c.args.powers.now)
+    folded ∙ ap₂ summed c.zero.ensures powers ∙ coefficients_value m g.met.K.Element.ring bits key (length c.args.powers.now)

@@ -1,5 +1,5 @@
 use Rattle.std.proofs.Common.{ℕ, List, [], ◌∷◌, ◌++◌, sym, ◌∙◌, subst}
-use Rattle.field.specs.declared.kinds.Block.{Block}
+use Rattle.field.specs.declared.block.Block.{Block}
 use Rattle.message.specs.Blocks.{blocks, block_of_lengths, block_list}
 use Rattle.message.specs.Hash.{hash_of}
 use Rattle.message.proofs.StandardHash.{lengths_counts}
@@ -31,6 +31,6 @@ returns g c =
         value = value;
         subkey = all.subkey ∙ from.subkey;
         ready = all.ready ∙ from.ready;
-        chain = (zeroed, subst (λ (v : Block). m.resumed start v zeroed) c.zero.ensures from.whole, all.chain);
+        chain = (zeroed, subst (λ (v : Block). m.resumes start v zeroed) c.zero.ensures from.whole, all.chain);
       };
     }

@@ -2,14 +2,14 @@ use Rattle.std.proofs.Common.{List, ◌++◌, take, drop, reverse, fold, sym, ap
 use Rattle.std.proofs.lemmas.List.{reverse-append}
 use Rattle.std.proofs.lemmas.List.Sums.{fold-append}
 use Rattle.field.specs.Kinds.{block_ring}
-use Rattle.field.specs.declared.kinds.Block.{Block}
+use Rattle.field.specs.declared.block.Block.{Block}
 use Rattle.field.specs.Instances.{block_ring_laws}
-use Rattle.division.specs.Rotation.{rotated}
-use Rattle.division.proofs.RemainderValues.{value_folded}
+use Rattle.division.specs.Rotation.{rotation}
+use Rattle.division.proofs.RemainderValues.{fold-reverse}
 use Rattle.division.proofs.ring.Ring.value_at.Goals as goal
 
 pub returns : goal.returns
-unfolding rotated
+unfolding rotation
 returns c =
     let key : Block = c.args.key in
     let state : List Block = c.args.self.now.state in
@@ -22,4 +22,4 @@ returns c =
     c.split_at.ensures.back
     ∙ sym (fold-append step block_ring.zero (reverse high) (reverse low))
     ∙ ap (fold step block_ring.zero) (sym (reverse-append low high))
-    ∙ value_folded block_ring block_ring_laws key (low ++ high)
+    ∙ fold-reverse block_ring block_ring_laws key (low ++ high)

@@ -14,6 +14,7 @@ returns g c =
     let element : T → E = g.Self.Encodes.element in
     let taken : E → E → E = λ value item. m.product (m.sum value item) c.args.key in
     let items : List T = c.args.items.now in
-    fold_from_yields_List _ (λ value item. taken value (element item)) _ _ c.fold.ensures.ran (YieldsList-from_slice items c.iter.ensures.rest) (λ value item r q k. search rules)
+    fold_from_yields_List _ (λ value item. taken value (element item)) _ _ c.fold.ensures.ran
+    (YieldsList-from_slice items c.iter.ensures.rest) (λ value item r q k. search rules)
     ∙ sym (fold-map taken element c.args.start items)
     ∙ fold_from m g.met.E.Element.ring c.args.key c.args.start (map element items)

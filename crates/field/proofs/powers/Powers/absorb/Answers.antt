@@ -2,12 +2,12 @@ use Rattle.std.proofs.Common.{◌≡◌, ℕ, ◌+◌, ◌-◌, ◌*◌, ◌%◌
 use Rattle.field.specs.Bytes.{word_of}
 use Rattle.field.specs.Digits.{numeral}
 use Rattle.field.specs.Evaluation.{power, eval_from}
-use Rattle.field.specs.Held.{entered_mod}
-use Rattle.field.specs.Instances.{word_held, word_ring_laws}
+use Rattle.field.specs.Residues.{entered_mod}
+use Rattle.field.specs.Instances.{word_residues, word_ring_laws}
 use Rattle.field.specs.Kinds.{word_ring}
-use Rattle.field.specs.declared.kinds.Word.{Word}
-use Rattle.field.proofs.Digits.{spelled, spells_list}
-use Rattle.field.proofs.Groups.{weighed, word_from}
+use Rattle.field.specs.declared.word.Word.{Word}
+use Rattle.field.proofs.Digits.{spelled, spells_length}
+use Rattle.field.proofs.Groups.{weighted_sum, word_from}
 use Rattle.field.proofs.powers.Powers.absorb.Goals as goal
 
 -- the sum from the left, and the same from the right
@@ -29,7 +29,7 @@ returns c =
     let six : powers.sixth ≡ raised 6 = powers.sixth_is ∙ ap (word_ring.product r) five in
     let at : ℕ → List ℕ = λ k. get_or c.args.group.now k [] in
     let long : length c.args.group.now ≡ 6 = search rules in
-    let spelt : c.args.group.now ≡ spelled 6 at = spells_list [] c.args.group.now ∙ ap (λ (n : ℕ). spelled n at) long in
+    let spelt : c.args.group.now ≡ spelled 6 at = spells_length [] c.args.group.now 6 long in
     let term : ℕ → ℕ → ℕ = λ k n. numeral 256 (at k) * (raised n).value in
     let weighs : (k n : ℕ) (w : Word) (made : ℕ) → made ≡ numeral 256 (at k) * w.value → w ≡ raised n → made ≡ term k n =
     λ k n w made found same. found ∙ ap (λ (x : Word). numeral 256 (at k) * x.value) same in
@@ -41,9 +41,10 @@ returns c =
     let sixth = weighs 5 1 _ _ c.weigh-6.ensures.value one in
     let risen : c.from.result * c.from-2.result ≡ v.value * (raised 6).value =
     ap₂ (λ (x y : ℕ). x * y) c.from.ensures c.from-2.ensures ∙ ap (λ (w : Word). v.value * w.value) six in
-    let total : ℕ = v.value * (raised 6).value + weighed r (spelled 6 at) in
+    let total : ℕ = v.value * (raised 6).value + weighted_sum r (spelled 6 at) in
     let summed : c.remainder.result ≡ total % (2 ^ 31 - 1) =
-    c.remainder.ensures ∙ ap (λ (n : ℕ). n % (2 ^ 31 - 1)) (gather _ _ _ _ _ _ _ _ _ _ _ _ _ _ risen first second third fourth fifth sixth) in
-    entered_mod word_held _ total summed
+    c.remainder.ensures
+    ∙ ap (λ (n : ℕ). n % (2 ^ 31 - 1)) (gather _ _ _ _ _ _ _ _ _ _ _ _ _ _ risen first second third fourth fifth sixth) in
+    entered_mod word_residues _ total summed
     ∙ word_from r v (spelled 6 at)
     ∙ ap (λ (ns : List (List ℕ)). eval_from word_ring r v (map word_of ns)) (sym spelt)

@@ -8,7 +8,8 @@ use Rattle.reading.proofs.Pieces.{joined, joined_push, pieces_within}
 use Rattle.reading.proofs.section.Section.copy_to.Goals as goal
 
 -- a piece written after those that were taken
-written_on : (taken piece output start new : List ℕ) (at k : ℕ) → at ≡ length taken → k ≡ length piece → output ≡ taken ++ drop at start → new ≡ piece
+written_on : (taken piece output start new : List ℕ) (at k : ℕ) → at ≡ length taken → k ≡ length piece
+    → output ≡ taken ++ drop at start → new ≡ piece
     → put_mid at k output new ≡ (taken ++ piece) ++ drop (at + k) start
 written_on taken piece output start new at k here long so_far same =
     let pm : List ℕ = put_mid at k output new in
@@ -19,15 +20,22 @@ written_on taken piece output start new at k here long so_far same =
     ∙ ap₂ (λ (xs ys : List ℕ). xs ++ ys)
     (take-put_mid at k output new (at + k) (omega (arith, size)) within
     ∙ ap₂ (λ (xs ys : List ℕ). xs ++ ys) (ap (take at) so_far ∙ take_at taken (drop at start) at (sym here)) same)
-    (drop-put_mid at k output new (at + k) (omega arith) within size ∙ sym (drop-drop k at output) ∙ ap (drop k) left ∙ drop-drop k at start)
+    (drop-put_mid at k output new (at + k) (omega arith) within size ∙ sym (drop-drop k at output) ∙ ap (drop k) left
+    ∙ drop-drop k at start)
 
 pub slice_bounds-copy_from_slice-end : goal.slice_bounds-copy_from_slice-end
 slice_bounds-copy_from_slice-end c =
-    let chain = YieldsList-from_first (λ (x : Bor (List ℕ)). x.now) section_pieces {s = c.into_iter-piece-iterator.result} (section_pieces c.args.self) cc in
-    let so_far = YieldsList-so_far chain c.loop-piece.yielded c.loop-piece.piece-iterator c.loop-piece.yielded_by in
-    let turn = YieldsList-turn chain c.loop-piece.yielded c.loop-piece.piece-iterator c.loop-piece.yielded_by _ c.next.new.self c.in-Some.piece c.in-Some.is c.next.ensures.steps in
-    let room = pieces_within (section_pieces c.args.self) c.loop-piece.yielded c.in-Some.piece so_far turn in
-    let within : c.loop-piece.at + length c.in-Some.piece.now ≤ length c.loop-piece.output = omega (arith, c.loop-piece.invariant.2, room, c.requires.room, c.loop-piece.auto.output) in
+    let pieces = section_pieces c.args.self in
+    let loop = c.loop-piece in
+    let chain =
+    YieldsList-from_first (λ (x : Bor (List ℕ)). x.now) section_pieces {s = c.into_iter-piece-iterator.result} pieces cc in
+    let so_far = YieldsList-so_far chain loop.yielded loop.piece-iterator loop.yielded_by in
+    let turn =
+    YieldsList-turn chain loop.yielded loop.piece-iterator loop.yielded_by
+    _ c.next.new.self c.in-Some.piece c.in-Some.is c.next.ensures.steps in
+    let room = pieces_within pieces loop.yielded c.in-Some.piece so_far turn in
+    let within : c.loop-piece.at + length c.in-Some.piece.now ≤ length c.loop-piece.output =
+    omega (arith, c.loop-piece.invariant.2, room, c.requires.room, c.loop-piece.auto.output) in
     within
 
 pub loop-piece-preserved : goal.loop-piece-preserved
@@ -40,6 +48,7 @@ loop-piece-preserved c =
       tt,
       tt,
       omega (arith, so.2, ap length next, length-append taken piece),
-      written_on taken piece c.loop-piece.output c.args.output.now c.copy_from_slice.new.self at (at + length piece - at) so.2 (omega arith) so.3 c.copy_from_slice.ensures.after
+      written_on taken piece c.loop-piece.output c.args.output.now c.copy_from_slice.new.self at (at + length piece - at)
+          so.2 (omega arith) so.3 c.copy_from_slice.ensures.after
           ∙ ap₂ (λ (xs : List ℕ) (n : ℕ). xs ++ drop n c.args.output.now) (sym next) (omega arith),
     )

@@ -1,10 +1,14 @@
 use Rattle.std.proofs.Common.{◌≡◌}
-use Rattle.sealed.proofs.Running.{body_goes_on}
+use Rattle.job.specs.Jobs.{BodyHolds}
+use Rattle.message.specs.declared.part.Part.TheVariants.{Body}
+use Rattle.sealed.proofs.Running.{took_more}
 use Rattle.sealed.proofs.feeding.BodyJobTakes.take.Goals as goal
 
 pub returns : goal.returns
-returns g c first taken within so_far h given e header took =
+returns g c first taken within so_far h can_switch header began took =
+    let m = g.E.Engine in
     let j = c.args.self.now in
-    let now = so_far h given e header took in
-    body_goes_on g.E.Engine h given e taken c.args.piece.now (λ _. c.feed.new.self ≡ j) c.feed.result j c.feed.new.self header within now
-    (c.feed.ensures.holds h given header taken now.holds) c.feed.ensures.whole.outcome
+    let now = so_far h can_switch header began took in
+    took_more m (λ u. BodyHolds m h can_switch u header) (λ u. u.buffer) (λ s xs holds. holds.holds.left) Body began j c.feed.new.self taken c.args.piece.now
+    (λ _. c.feed.new.self ≡ j) c.feed.result within now
+    (c.feed.ensures.holds h can_switch header taken now.holds) c.feed.ensures.whole.feeds.outcome

@@ -1,6 +1,0 @@
-use Rattle.std.proofs.Common.{take}
-use Rattle.job.specs.Jobs.{Cut}
-use Rattle.job.proofs.state.Filling.hold.Given as goal
-
-abbrev pub invariant-loop-byte : goal.invariant-loop-byte
-invariant-loop-byte g l = Cut g.E.Engine l.initial.self (take l.byte-index l.piece) l.self

@@ -1,9 +1,0 @@
-use Rattle.field.specs.Instances.{block_held}
-use Rattle.polynomial.specs.Coefficients.{block_placed}
-use Rattle.polynomial.proofs.Coefficients.{ones_parts, weighed}
-use Rattle.polynomial.proofs.blocks.BlockBinary.weight.Goals as goal
-
-pub returns : goal.returns
-returns c =
-    weighed block_placed block_held c.args.self _
-    (ones_parts 64 c.args.self.bits _ _ _ c.bits-bits.ensures c.bits-bits.ensures c.from.ensures)

@@ -1,8 +1,0 @@
-use Rattle.std.proofs.Common.{arith}
-use Rattle.field.specs.Instances.{nibble_held}
-use Rattle.polynomial.specs.Coefficients.{nibble_placed}
-use Rattle.polynomial.proofs.Coefficients.{tested}
-use Rattle.polynomial.proofs.nibbles.NibbleBinary.bit.Goals as goal
-
-pub returns-then-k-lt4 : goal.returns-then-k-lt4
-returns-then-k-lt4 c = tested nibble_placed nibble_held c.args.self c.args.k _ _ (omega arith) (omega arith) (omega arith)

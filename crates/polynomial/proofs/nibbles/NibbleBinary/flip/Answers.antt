@@ -1,9 +1,0 @@
-use Rattle.std.proofs.Common.{arith, lit≤}
-use Rattle.field.specs.Instances.{nibble_held}
-use Rattle.polynomial.specs.Coefficients.{nibble_placed}
-use Rattle.polynomial.proofs.Coefficients.{flips}
-use Rattle.polynomial.proofs.nibbles.NibbleBinary.flip.Goals as goal
-
-pub returns-then-k-lt4 : goal.returns-then-k-lt4
-returns-then-k-lt4 c =
-    flips nibble_placed nibble_held c.args.self _ c.args.k _ _ 8 c.new.ensures (lit≤ tt) (omega arith) (omega arith) (omega arith)
