@@ -77,7 +77,7 @@ module _ {K : Type 0} (m : Ghosts K) (laws : CommutativeRing m.zero m.one m.sum 
   -- ---- the value by Horner's rule
 
   -- the lowest coefficient apart
-  value_at-cons : (c : K) (cs : List K) → value_at m r (c ∷ cs) ≡ m.sum c (m.product r (value_at m r cs))
+  pub value_at-cons : (c : K) (cs : List K) → value_at m r (c ∷ cs) ≡ m.sum c (m.product r (value_at m r cs))
   value_at-cons c cs = ap₂ m.sum (laws.product_one c) (value_from-suc zero cs)
 
   -- from the highest coefficient down

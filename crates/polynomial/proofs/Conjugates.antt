@@ -8,28 +8,28 @@ use Rattle.polynomial.specs.Steps.{lower_linear_from, lower_conjugates}
 use Rattle.polynomial.proofs.Values.{power_add}
 
 module _ {K : Type 0} (m : Ghosts K) where
-  length_lower_linear : (z before : K) (cs : List K) → length (lower_linear_from m z before cs) ≡ suc (length cs)
-  length_lower_linear z before [] = refl
-  length_lower_linear z before (c ∷ cs) = ap suc (length_lower_linear z c cs)
+  length_lower_linear : (z before : K) (cs : List K) (top : K) → length (lower_linear_from m z before cs top) ≡ suc (length cs)
+  length_lower_linear z before [] top = refl
+  length_lower_linear z before (c ∷ cs) top = ap suc (length_lower_linear z c cs top)
 
   pub length_lower : (r : K) (n : ℕ) → length (lower_conjugates m r n) ≡ n
   length_lower r zero = refl
   length_lower r (suc n) =
-      length_lower_linear (power m r (2 ^ n)) m.zero (lower_conjugates m r n) ∙ ap suc (length_lower r n)
+      length_lower_linear (power m r (2 ^ n)) m.zero (lower_conjugates m r n) m.one ∙ ap suc (length_lower r n)
 
-module _ {K : Type 0} (m : Ghosts K) (laws : CommutativeRing m.zero m.one m.sum m.product) where
-  -- the highest coefficient stays one
-  linear_lower : (z before : K) (cs : List K)
-      → linear_from m z before (cs ++ m.one ∷ []) ≡ lower_linear_from m z before cs ++ m.one ∷ []
-  linear_lower z before [] = ap (λ x. m.sum before x ∷ m.one ∷ []) (laws.product_one z)
-  linear_lower z before (c ∷ cs) = ap (λ (xs : List K). m.sum before (m.product z c) ∷ xs) (linear_lower z c cs)
+  -- the highest coefficient stays
+  linear_lower : (z before : K) (cs : List K) (top : K)
+      → linear_from m z before (cs ++ top ∷ []) ≡ lower_linear_from m z before cs top ++ top ∷ []
+  linear_lower z before [] top = refl
+  linear_lower z before (c ∷ cs) top = ap (λ (xs : List K). m.sum before (m.product z c) ∷ xs) (linear_lower z c cs top)
 
   pub conjugates_lower : (r : K) (n : ℕ) → conjugates m r n ≡ lower_conjugates m r n ++ m.one ∷ []
   conjugates_lower r zero = refl
   conjugates_lower r (suc n) =
       let root : K = power m r (2 ^ n) in
-      ap (times_linear m root) (conjugates_lower r n) ∙ linear_lower root m.zero (lower_conjugates m r n)
+      ap (times_linear m root) (conjugates_lower r n) ∙ linear_lower root m.zero (lower_conjugates m r n) m.one
 
+module _ {K : Type 0} (m : Ghosts K) (laws : CommutativeRing m.zero m.one m.sum m.product) where
   -- the next square
   pub power_square : (r : K) (n : ℕ) → m.product (power m r (2 ^ n)) (power m r (2 ^ n)) ≡ power m r (2 ^ suc n)
   power_square r n =

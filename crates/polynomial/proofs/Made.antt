@@ -19,29 +19,28 @@ neither_above m xs ys (k, within, not-zero, not-one) =
     let longer : k < length (xs ++ ys) = subst (λ n. k < n) (sym (length-append xs ys)) (omega arith) in
     (k, longer, (λ e. not-zero (sym same ∙ e)), (λ e. not-one (sym same ∙ e)))
 
+pub neither_conjugates : {K : Type 0} (m : Ghosts K) (r : K) (n : ℕ)
+    → SomeNeither m (lower_conjugates m r n) → SomeNeither m (conjugates m r n)
+neither_conjugates m r n some =
+    subst (λ xs. SomeNeither m xs) (sym (conjugates_lower m r n)) (neither_above m (lower_conjugates m r n) (m.one ∷ []) some)
+
 module _ {K : Type 0} (m : Ghosts K) (laws : CommutativeRing m.zero m.one m.sum m.product) (b : binary.Ghosts K) (r : K) where
   -- the stored coefficients, with the highest after them, are the product
   made_product : (bits : ℕ → Bool) → coefficient_list m b.width bits ≡ lower_conjugates m r b.width
       → coefficient_list m b.width bits ++ m.one ∷ [] ≡ conjugates m r b.width
-  made_product bits same = ap (λ (cs : List K). cs ++ m.one ∷ []) same ∙ sym (conjugates_lower m laws r b.width)
+  made_product bits same = ap (λ (cs : List K). cs ++ m.one ∷ []) same ∙ sym (conjugates_lower m r b.width)
 
   pub found_made : (room : ℕ) (found : Option K) → b.width ≤ room
       → Reads m b.bits b.width (lower_conjugates m r b.width) found → Makes b m room r (ok_or found NotBinary)
   found_made room (Some p) wide same = record { has_room = wide; product = made_product (b.bits p) same }
-  found_made room None wide some =
-      inr (
-        refl,
-        wide,
-        subst (λ xs. SomeNeither m xs) (sym (conjugates_lower m laws r b.width))
-            (neither_above m (lower_conjugates m r b.width) (m.one ∷ []) some),
-      )
+  found_made room None wide some = inr (refl, wide, neither_conjugates m r b.width some)
 
   module _ (binary-laws : BinaryLaws m b.width b.bits) where
     vanishes : (n : ℕ) → zero < n → value_at m r (conjugates m r n) ≡ m.zero
     vanishes zero some = absurd (omega arith)
     vanishes (suc n) some = conjugates_value m laws r r (suc n) ∙ factors_vanish m laws binary-laws.even r n
 
-    made_annihilates : (bits : ℕ → Bool) → coefficient_list m b.width bits ++ m.one ∷ [] ≡ conjugates m r b.width
+    pub made_annihilates : (bits : ℕ → Bool) → coefficient_list m b.width bits ++ m.one ∷ [] ≡ conjugates m r b.width
         → Annihilates m b.width bits r
     made_annihilates bits made =
         sym (value_at-proposal m laws r b.width bits) ∙ ap (value_at m r) made ∙ vanishes b.width binary-laws.wide

@@ -6,10 +6,10 @@ use Rattle.field.specs.declared.element.Element.{Ghosts}
 use Rattle.polynomial.specs.Bits.{bits_after_flip}
 use Rattle.polynomial.specs.Polynomials.{element}
 
-flip_other : (width : ℕ) (bits : ℕ → Bool) (k j : ℕ) → j ≢ k → bits_after_flip width bits k j ≡ bits j
+pub flip_other : (width : ℕ) (bits : ℕ → Bool) (k j : ℕ) → j ≢ k → bits_after_flip width bits k j ≡ bits j
 flip_other width bits k j apart = cond-false _ _ _ (ne_eqb j k apart)
 
-flip_same : (width : ℕ) (bits : ℕ → Bool) (k : ℕ) → k < width → bits_after_flip width bits k k ≡ not (bits k)
+pub flip_same : (width : ℕ) (bits : ℕ → Bool) (k : ℕ) → k < width → bits_after_flip width bits k k ≡ not (bits k)
 flip_same width bits k below = cond-true _ _ _ (eq-eqb k k refl) ∙ cond-true _ _ _ (lt-ltb k width below)
 
 module _ {K : Type 0} (m : Ghosts K) (laws : CommutativeRing m.zero m.one m.sum m.product)

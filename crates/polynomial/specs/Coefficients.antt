@@ -73,7 +73,7 @@ either_way true x = refl
 either_way false x = refl
 
 -- the number zero has no ones
-no_ones : {shape : FieldShape} (placed : HasPlaces shape) (k : ℕ) → bit_in shape 0 k ≡ false
+pub no_ones : {shape : FieldShape} (placed : HasPlaces shape) (k : ℕ) → bit_in shape 0 k ≡ false
 no_ones {shape} placed k =
     let none : shape.digit 0 k ≡ 0 = placed.digit 0 k ∙ ap (λ (n : ℕ). n % 2) (div-eq_of_lt (pow_pos (placed.place k))) in
     ap (λ (d : ℕ). if nat_lt k shape.width then d == 1 else false) none ∙ either_way (nat_lt k shape.width) false

@@ -15,13 +15,14 @@ module _ {K : Type 0} (m : Ghosts K) where
   SumsPowers bits powers sum =
       (r : K) → powers ≡ power_list r (length powers) → sum ≡ lower_value m (length powers) bits r
 
-  -- t + z times a polynomial whose highest coefficient is one; neither that one nor the product's own is listed
-  abbrev pub lower_linear_from : K → K → List K → List K
-  lower_linear_from z before [] = m.sum before z ∷ []
-  lower_linear_from z before (c ∷ cs) = m.sum before (m.product z c) ∷ lower_linear_from z c cs
+  -- t + z times cs and a highest coefficient `top`, without the highest of the product, which is `top` again
+  abbrev pub lower_linear_from : K → K → List K → K → List K
+  lower_linear_from z before [] top = m.sum before (m.product z top) ∷ []
+  lower_linear_from z before (c ∷ cs) top = m.sum before (m.product z c) ∷ lower_linear_from z c cs top
 
+  -- t + z times a polynomial whose highest coefficient is one; neither that one nor the product's own is listed
   abbrev pub lower_times_linear : K → List K → List K
-  lower_times_linear z cs = lower_linear_from z m.zero cs
+  lower_times_linear z cs = lower_linear_from z m.zero cs m.one
 
   -- the product of t + r^(2^i) for i below n, without its highest coefficient, which is one
   abbrev pub lower_conjugates : K → ℕ → List K

@@ -7,5 +7,5 @@ abbrev pub invariant-loop-coefficient : goal.invariant-loop-coefficient
 invariant-loop-coefficient g l =
     (lower_times_linear g.E.Element l.root l.initial.coefficients
     ≡ take l.coefficient-index l.coefficients
-    ++ lower_linear_from g.E.Element l.root l.below (drop l.coefficient-index l.initial.coefficients))
+    ++ lower_linear_from g.E.Element l.root l.below (drop l.coefficient-index l.initial.coefficients) g.E.Element.one)
     × (drop l.coefficient-index l.coefficients ≡ drop l.coefficient-index l.initial.coefficients)
