@@ -50,7 +50,7 @@ digits_append base (suc s) t v =
     (digits_append base s t v)
 
 module _ (base : ℕ) (positive : zero < base) where
-  pow_positive : (n : ℕ) → zero < base ^ n
+  pub pow_positive : (n : ℕ) → zero < base ^ n
   pow_positive zero = rw pow-zero (omega arith)
   pow_positive (suc n) = subst (λ (p : ℕ). zero < p) (sym (pow-suc base n)) (mul-pos (pow_positive n) positive)
 
@@ -66,7 +66,7 @@ module _ (base : ℕ) (positive : zero < base) where
       (digits_lt (small zero) (numeral_lt xs (λ k. small (suc k))))
 
   -- what lies above the n lowest digits does not matter
-  digits_high : (n q r : ℕ) → digits base n (q * base ^ n + r) ≡ digits base n r
+  pub digits_high : (n q r : ℕ) → digits base n (q * base ^ n + r) ≡ digits base n r
   unfolding digits
   digits_high zero q r = refl
   digits_high (suc n) q r =

@@ -15,7 +15,7 @@ module _ {R : Type 0} (m : Ghosts R) (laws : CommutativeRing m.zero m.one m.sum 
       ∙ ap₂ m.sum (laws.product_comm z x) (laws.product_comm z y)
 
   -- one item more at the end
-  eval_push : (r : R) (ps : List R) (q : R) → eval m r (ps ++ (q ∷ [])) ≡ m.product (m.sum (eval m r ps) q) r
+  pub eval_push : (r : R) (ps : List R) (q : R) → eval m r (ps ++ (q ∷ [])) ≡ m.product (m.sum (eval m r ps) q) r
   eval_push r [] q =
       sym
       (ap (λ x. m.product x r) (zero_sum q)

@@ -31,7 +31,7 @@ module _ {V : Type 0} (shape : FieldShape) (lawful : Lawful shape) (residues : R
       value_below residues (times (number u) (number v))
       (bit_product_fits shape lawful shape.width (number u) (number v) (residues.fits v))
 
-  zero_number : number ring.zero ≡ zero
+  pub zero_number : number ring.zero ≡ zero
   zero_number = value_below residues zero (pow_pos shape.width)
 
   one_number : number ring.one ≡ shape.unit

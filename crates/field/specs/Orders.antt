@@ -19,7 +19,7 @@ times_bit-xor (suc zero) (suc zero) v hc hd = sym (xor_self v)
 times_bit-xor (suc zero) (suc (suc d)) v hc hd = absurd (omega arith)
 times_bit-xor (suc (suc c)) d v hc hd = absurd (omega arith)
 
-times_bit-eq : (c v : ℕ) → c < 2 → times_bit c v ≡ c * v
+pub times_bit-eq : (c v : ℕ) → c < 2 → times_bit c v ≡ c * v
 times_bit-eq zero v h = sym (zero-mul v)
 times_bit-eq (suc zero) v h = sym (one-mul v)
 times_bit-eq (suc (suc c)) v h = absurd (omega arith)
@@ -116,7 +116,7 @@ module _ (width rest : ℕ) where
       ∙ times_bit-xor (top a) (top b) rest (mod-lt (a / 2 ^ (width - 1)) two) (mod-lt (b / 2 ^ (width - 1)) two))
       ∙ xor_four (a * 2 % 2 ^ width) (b * 2 % 2 ^ width) (times_bit (top a) rest) (times_bit (top b) rest)
 
-  low_fits : rest < 2 ^ width → (v : ℕ) → low_step v < 2 ^ width
+  pub low_fits : rest < 2 ^ width → (v : ℕ) → low_step v < 2 ^ width
   low_fits hr v =
       xor_lt width (v * 2 % 2 ^ width) (times_bit (top v) rest)
       (mod-lt (v * 2) (pow_pos width)) (times_bit-lt (top v) rest width hr)

@@ -19,11 +19,11 @@ xor_four a b c d =
     ∙ sym (xor_assoc a c (bit_xor b d))
 
 -- zero goes to zero
-through_zero : (f : ℕ → ℕ) → Additive f → f zero ≡ zero
+pub through_zero : (f : ℕ → ℕ) → Additive f → f zero ≡ zero
 through_zero f additive = additive zero zero ∙ xor_self (f zero)
 
 -- a bit may be multiplied before or after
-through_times_bit : (f : ℕ → ℕ) → Additive f → (bit v : ℕ) → f (times_bit bit v) ≡ times_bit bit (f v)
+pub through_times_bit : (f : ℕ → ℕ) → Additive f → (bit v : ℕ) → f (times_bit bit v) ≡ times_bit bit (f v)
 through_times_bit f additive zero v = through_zero f additive
 through_times_bit f additive (suc bit) v = refl
 
