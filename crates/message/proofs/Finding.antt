@@ -1,5 +1,5 @@
 -- The pieces of a header and a body that are found one by one.
-use Rattle.std.proofs.Common.{◌≡◌, ℕ, zero, suc, ◌+◌, ◌-◌, ◌*◌, ◌<◌, ◌≤◌, List, ◌∷◌, ◌++◌, map, length, take, drop, Some, sym, refl, ap, ◌∙◌, ap₂, arith, lt-ltb}
+use Rattle.std.proofs.Common.{◌≡◌, ℕ, zero, suc, ◌+◌, ◌-◌, ◌*◌, ◌<◌, ◌≤◌, List, ◌∷◌, ◌++◌, map, length, take, drop, Some, None, sym, refl, ap, ◌∙◌, ap₂, arith, lt-ltb}
 use mathlib.Core.List.{map-append}
 use Rattle.std.proofs.lemmas.List.Folds.{concat-append}
 use Rattle.std.specs.Simd.{first_chunks}
@@ -49,6 +49,9 @@ module _ (header body : List ℕ) where
 
   pub place_in_body : (n : ℕ) → in_header ≤ n → n < in_header + in_body → block_place header body n ≡ Some (Body, 16 * (n - in_header))
   place_in_body n past below = cond-false _ _ _ (le-ltb n in_header past) ∙ cond-true _ _ _ (lt-ltb n (in_header + in_body) below)
+
+  pub no_place : (n : ℕ) → in_header + in_body ≤ n → block_place header body n ≡ None
+  no_place n past = cond-false _ _ _ (le-ltb n in_header (omega arith)) ∙ cond-false _ _ _ (le-ltb n (in_header + in_body) past)
 
   abbrev found : ℕ → List ℕ
   found n = bytes_at header body (block_place header body n)
