@@ -1,14 +1,38 @@
 -- The first place of a text that holds no digit is the one that decoding names.
-use Rattle.std.proofs.Common.{◌≡◌, ℕ, ◌+◌, ◌*◌, ◌%◌, ◌≤◌, ◌⊎◌, inl, inr, not, List, length, slice_index, Some, None, Result, Ok, Err, refl, ap, ap₂, ◌∙◌, arith}
+use Rattle.std.proofs.Common.{◌≡◌, ℕ, ◌+◌, ◌*◌, ◌%◌, ◌≤◌, ◌⊎◌, ◌&&◌, inl, inr, not, Bool, true, false, List, [], ◌∷◌, fold, length, slice_index, Option, Some, None, Result, Ok, Err, refl, ap, ap₂, ◌∙◌, arith}
 use Rattle.std.proofs.lemmas.Bool.{cases_lt}
 use Rattle.std.proofs.lemmas.Grind.{common_steps}
 use Rattle.std.proofs.lemmas.List.Quantifiers.{position-Some}
-use Rattle.std.proofs.lemmas.List.Sums.{fails_before_first}
-use Rattle.std.specs.List.{AllPass, position_or_len}
+use Rattle.std.proofs.lemmas.List.Sums.{AllPass-from_list_all, fails_before_first}
+use Rattle.std.specs.List.{AllPass, list_all, position_or_len}
 use Rattle.hex.proofs.HexLemmas.{decode_of-digits, decode_of-err, decode_of-ok}
 use Rattle.hex.specs.Hex.{decode_of, is_hex_digit}
 use Rattle.hex.specs.declared.error.FromHexError.TheVariants.{InvalidHexCharacter}
 use Rattle.hexadecimal.specs.Words.{bad_place}
+
+-- a fold that is false from the first on that does not
+pub fold-and : (p : ℕ → Bool) (so_far : Bool) (xs : List ℕ) → fold (λ a x. a && p x) so_far xs ≡ (so_far && list_all p xs)
+fold-and p true [] = refl
+fold-and p false [] = refl
+fold-and p true (x ∷ xs) = fold-and p (p x) xs
+fold-and p false (x ∷ xs) = fold-and p false xs
+
+-- a place or none
+place_or_none : (o : Option ℕ) → ((at : ℕ) × (o ≡ Some at)) ⊎ (o ≡ None)
+place_or_none (Some at) = inl (at, refl)
+place_or_none None = inr refl
+
+-- no place holds none where each holds a digit
+pub bad_place-none : (text : List ℕ) → list_all is_hex_digit text ≡ true → bad_place text ≡ None
+bad_place-none text all =
+    elim (place_or_none (bad_place text)) [
+      | inl found ↦
+          let first = position-Some (λ c. not (is_hex_digit c)) text found.0 0 found.1 in
+          let digit = AllPass-from_list_all is_hex_digit text all found.0 0 first.0 in
+          let bad = first.1 in
+          grind (arith)
+      | inr none ↦ none
+    ]
 
 -- an `Ok` or an `Err`
 parts : {T E : Type 0} (r : Result T E) → ((x : T) × (r ≡ Ok x)) ⊎ ((e : E) × (r ≡ Err e))

@@ -6,6 +6,8 @@
 #![tactic(auto)]
 
 ghost use Rattle.std.specs.Prelude.{◌≡◌, length};
+ghost use Rattle.std.specs.List.{list_all};
+ghost use Rattle.hex.specs.Hex.{is_hex_digit};
 ghost use Rattle.hexadecimal.specs.Words.{bad_place, block_in, bytes_count, fault_of, WritesBytes};
 
 use field::Block;
@@ -81,11 +83,24 @@ pub fn parse_bytes(text: &str, bytes: &mut [u8]) -> Result<usize, HexFault>
     Ok(needed)
 }
 
-// The first place that holds no digit.
+// Whether each byte is a digit. It looks at all of them, since a pass that does not stop is compiled to one over many bytes at once.
+fn all_digits(bytes: &[u8]) -> bool
+    ensures { result ≡ list_all is_hex_digit bytes.now }
+{
+    bytes
+        .iter()
+        .fold(true, |digits, c| digits & c.is_ascii_hexdigit())
+}
+
+// The first place that holds no digit. It is looked for only where there is one.
 fn bad_place(text: &str) -> Option<usize>
     ensures { result ≡ bad_place text.now }
 {
-    text.as_bytes().iter().position(|c| !c.is_ascii_hexdigit())
+    let bytes = text.as_bytes();
+    if all_digits(bytes) {
+        return None;
+    }
+    bytes.iter().position(|c| !c.is_ascii_hexdigit())
 }
 
 // What an error of `hex` is in a text of so many digits: its bad digit, or else its length, since nothing is allocated.
