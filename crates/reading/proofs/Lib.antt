@@ -2,6 +2,7 @@ pub mod Numbers
 pub mod Places
 pub mod Scans
 pub mod Joining
+pub mod Gathering
 pub mod FoldedScan
 pub mod InOrder
 pub mod Pieces
