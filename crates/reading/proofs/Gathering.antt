@@ -9,7 +9,10 @@ use Rattle.refusal.specs.declared.Refusal.TheVariants.{NoEnd}
 use Rattle.format.specs.Faults.{Predecessor, no_predecessor, as_predecessor, is_size_good, block_at, predecessor_at, blocks_of, refusal_or, fault_of, scan_result}
 use Rattle.format.specs.Verdict.{and_then, lengths_in, scan_answer}
 use Rattle.format.specs.declared.lengths.Lengths.{Lengths}
-use Rattle.reading.specs.Readers.{refusal_at}
+use Rattle.reading.specs.Readers.{refusal_at, ReadsBlock, AnswersAsScan}
+use Rattle.reading.specs.Scanning.{Reached}
+use Rattle.reading.specs.declared.reader.Reader.{Reader}
+use Rattle.reading.specs.declared.record.Item.{Item}
 use Rattle.reading.proofs.Places.{sized, wrong_block}
 use Rattle.reading.proofs.Scans.{scan_on}
 
@@ -26,18 +29,6 @@ chunks_more n k file within =
     ap (λ (j : ℕ). first_chunks 512 j (drop (512 * k) file)) e
     ∙ ap (λ (xs : List ℕ). block_at file k ∷ first_chunks 512 (n - (k + 1)) xs) (drop-drop 512 (512 * k) file
     ∙ ap (λ (j : ℕ). drop j file) further)
-
--- the scan of a file goes on from block k
-abbrev pub Reached : List ℕ → ℕ → Type 0
-Reached file k =
-    scan_result 0 no_predecessor (first_chunks 512 (length file / 512) file)
-    ≡ scan_result k (predecessor_at file k) (first_chunks 512 (length file / 512 - k) (drop (512 * k) file))
-
--- and it begins at block 0
-pub reach_none : (file : List ℕ) → Reached file 0
-reach_none file =
-    let all : length file / 512 ≡ length file / 512 - 0 = omega arith in
-    ap (λ (n : ℕ). scan_result 0 no_predecessor (first_chunks 512 n file)) all
 
 module _ (file : List ℕ) (k : ℕ) (reached : Reached file k) where
   abbrev last : Predecessor → Answer
@@ -56,7 +47,8 @@ module _ (file : List ℕ) (k : ℕ) (reached : Reached file k) where
         ap (λ (r : Result Predecessor Refusal). and_then r last)
         (reached ∙ ap (λ (n : ℕ). scan_result k (predecessor_at file k) (first_chunks 512 n (drop (512 * k) file))) none)
         ∙ grind (arith, nat_tests, ap (λ (n : ℕ). NoEnd n) count)
-        ∙ ap (λ (o : Option Refusal). refusal_or o (Ok (lengths_in file))) (sym (cond-true _ _ _ (eq-eqb (512 * k) (length file) whole)))
+        ∙ ap (λ (o : Option Refusal). refusal_or o (Ok (lengths_in file)))
+        (sym (cond-true _ _ _ (eq-eqb (512 * k) (length file) whole)))
 
     -- the scan's answer is that of a reader there
     pub answer_at_end : scan_answer file ≡ refusal_or (refusal_at file k) (Ok (lengths_in file))
@@ -110,3 +102,11 @@ module _ (file : List ℕ) (k : ℕ) (reached : Reached file k) where
       ∙ scan_on k (predecessor_at file k) (block_at file k) (first_chunks 512 (n - (k + 1)) (drop (512 * (k + 1)) file)) none
       ∙ ap (λ (j : ℕ). scan_result (suc k) (as_predecessor (block_at file k)) (first_chunks 512 (n - j) (drop (512 * j) file)))
       (add-one k)
+
+-- so one call of a reader answers as the scan of the whole file
+pub as_scan : (old new : Reader) (r : Result (Option Item) Refusal) → ReadsBlock old new r → AnswersAsScan old r
+as_scan old new (Ok None) read =
+    answer_at_end old.file.now old.place old.reached read.over
+    ∙ ap (λ (o : Option Refusal). refusal_or o (Ok (lengths_in old.file.now))) read.sound
+as_scan old new (Ok (Some i)) read = tt
+as_scan old new (Err e) read = refused old.file.now old.place old.reached e old.within read.why

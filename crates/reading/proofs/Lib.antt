@@ -3,6 +3,7 @@ pub mod Places
 pub mod Scans
 pub mod Joining
 pub mod Gathering
+pub mod Ends
 pub mod FoldedScan
 pub mod InOrder
 pub mod Pieces

@@ -5,6 +5,7 @@ use Rattle.refusal.specs.declared.Refusal.{Refusal}
 use Rattle.refusal.specs.declared.Refusal.TheVariants.{FileSize, NoEnd}
 use Rattle.format.specs.Layout.{block_length, header_kind, body_kind, end_kind}
 use Rattle.format.specs.Faults.{is_size_good, block_at, predecessor_at, fault_of, blocks_of, data_of}
+use Rattle.format.specs.Verdict.{lengths_in, scan_answer}
 use Rattle.reading.specs.Records.{IsItemOf, piece_for}
 use Rattle.reading.specs.declared.reader.Reader.{Reader}
 use Rattle.reading.specs.declared.record.Item.{Item}
@@ -76,3 +77,12 @@ AddsToParts old (Ok None) =
     first_chunks block_length (blocks_read old) (lent_file old) ≡ blocks_of (lent_file old)
 AddsToParts old (Ok (Some i)) = AddsToBoth (lent_file old) (blocks_read old) i.record
 AddsToParts old (Err e) = Unit {0}
+
+-- ---- what the whole file is refused for
+
+-- One call of a reader: a refusal is that of a scan of the whole file, and where there is no record, that scan meets no fault.
+-- A record says nothing of the blocks after it.
+abbrev pub AnswersAsScan : Reader → Result (Option Item) Refusal → Type 0
+AnswersAsScan old (Ok None) = scan_answer (lent_file old) ≡ Ok (lengths_in (lent_file old))
+AnswersAsScan old (Ok (Some i)) = Unit {0}
+AnswersAsScan old (Err e) = scan_answer (lent_file old) ≡ Err e

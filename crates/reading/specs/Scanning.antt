@@ -1,8 +1,9 @@
 -- What a scan of a file's blocks goes through.
-use Rattle.std.specs.Prelude.{◌≡◌, ℕ, ◌+◌, ◌≤◌, if◌then◌else◌, List, length, Some, Ok, Err, Result, ◌==◌}
+use Rattle.std.specs.Prelude.{◌≡◌, ℕ, ◌+◌, ◌-◌, ◌*◌, ◌/◌, ◌≤◌, if◌then◌else◌, List, length, drop, Some, Ok, Err, Result, ◌==◌}
+use Rattle.std.specs.Simd.{first_chunks}
 use Rattle.refusal.specs.declared.Refusal.{Refusal}
-use Rattle.format.specs.Layout.{most_blocks, file_limit, header_kind, body_kind}
-use Rattle.format.specs.Faults.{no_predecessor, scan_result, blocks_of_kind, data_of}
+use Rattle.format.specs.Layout.{block_length, most_blocks, file_limit, header_kind, body_kind}
+use Rattle.format.specs.Faults.{no_predecessor, predecessor_at, scan_result, blocks_of_kind, data_of}
 use Rattle.format.specs.Kinds.{kind_number}
 use Rattle.reading.specs.Shapes.{predecessor_of}
 use Rattle.reading.specs.declared.scan.Scan.{Scan}
@@ -41,3 +42,10 @@ pub record IsScanOf (bs : List (List ℕ)) (s : Scan) : Type 0 where
 abbrev pub ScansBlocks : List (List ℕ) → Result Scan Refusal → Type 0
 ScansBlocks bs (Ok s) = IsScanOf bs s
 ScansBlocks bs (Err e) = scan_result 0 no_predecessor bs ≡ Err e
+
+-- A scan of a file comes to block k without a fault: what it answers from there on is what it answers at all.
+abbrev pub Reached : List ℕ → ℕ → Type 0
+Reached file k =
+    scan_result 0 no_predecessor (first_chunks block_length (length file / block_length) file)
+    ≡ scan_result k (predecessor_at file k)
+    (first_chunks block_length (length file / block_length - k) (drop (block_length * k) file))

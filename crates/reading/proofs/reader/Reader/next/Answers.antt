@@ -1,4 +1,4 @@
-use Rattle.std.proofs.Common.{◌≡◌, ℕ, suc, ◌+◌, ◌*◌, ◌≤◌, true, List, length, take, drop, sym, refl, ap, ◌∙◌, ap₂, add-one, arith, ◌-◌}
+use Rattle.std.proofs.Common.{◌≡◌, ℕ, suc, ◌+◌, ◌*◌, ◌≤◌, true, List, length, take, drop, subst, sym, refl, ap, ◌∙◌, ap₂, add-one, arith, ◌-◌}
 use Rattle.std.proofs.lemmas.List.{length-drop, take_rest, drop-drop}
 use Rattle.std.proofs.lemmas.Result.{err_from_is_err_and}
 use Rattle.format.specs.Faults.{Predecessor, is_size_good, kind_in, data_in, as_predecessor, predecessor_at, block_at, fault_of}
@@ -7,6 +7,8 @@ use Rattle.reading.specs.Readers.{refusal_at}
 use Rattle.reading.specs.Shapes.{predecessor_of, shape_as_predecessor}
 use Rattle.reading.specs.declared.reader.Reader.{Reader}
 use Rattle.reading.specs.declared.record.Item.{Item}
+use Rattle.reading.specs.Scanning.{Reached}
+use Rattle.reading.proofs.Gathering.{as_scan, reach_more}
 use Rattle.reading.proofs.Joining.{adds_to_both}
 use Rattle.reading.proofs.Places.{wrong_block}
 use Rattle.reading.proofs.reader.Reader.next.Goals as goal
@@ -64,6 +66,10 @@ returns-in_err-shape-clause-read c =
       stays = refl;
     }
 
+pub returns-in_err-shape-clause-scan : goal.returns-in_err-shape-clause-scan
+returns-in_err-shape-clause-scan c =
+    let self = c.args.self.now in as_scan self self c.from_residual.result (returns-in_err-shape-clause-read c)
+
 pub invariant_of-self : goal.invariant_of-self
 invariant_of-self c =
     let self = c.args.self.now in
@@ -76,6 +82,10 @@ invariant_of-self c =
       within = omega (arith, long);
       kind = ap (λ (p : Predecessor). p.kind) said;
       used = ap (λ (p : Predecessor). p.used) said;
+      reached =
+          subst (Reached self.file.now) (sym (add-one self.place))
+          (reach_more self.file.now self.place self.reached
+          (wrong self block cut.same cut.enough (sym c.if-not-is_size_good.ensures) ∙ c.in_ok-shape.ensures.sound) long);
     }
 
 pub returns-clause-read : goal.returns-clause-read
