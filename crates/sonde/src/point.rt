@@ -34,9 +34,13 @@ pub(crate) struct Fault {
 }
 
 impl Fault {
+    // What is no answer goes to standard error, as with any command; then come the line of the point and the last line, which are the
+    // list's. Once it has been told there, a list that cannot be printed is no further fault.
     pub(crate) fn print(&self, rt: &HostRuntime) -> io::Result<()> {
         let Fault { point, stop } = self;
-        println!(rt; "{point}: {stop}\ndo not launch: {stop}")
+        let told = stop.print_fault(rt);
+        let listed = println!(rt; "{point}: {stop}\ndo not launch: {stop}");
+        if stop.is_answer() { listed } else { told }
     }
 }
 

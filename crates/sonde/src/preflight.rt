@@ -13,6 +13,7 @@ use field::Block;
 use job::{BodyJob, Closed, HeaderJob};
 use message::{Digest, Found, Message, Pad, Part, Tag, block_of, block_of_byte_counts};
 use polynomial::Accepted;
+use reading::{Reader, Record};
 use refusal::Refusal;
 use sealed::check_file;
 use std::ops::Range;
@@ -134,7 +135,8 @@ fn around(centre: usize) -> Range<usize> {
     centre.saturating_sub(AROUND)..centre.saturating_add(AROUND + 1)
 }
 
-// Where the body is cut: at the given places, near its front, its middle and its end.
+// Where the body is cut: near its front, its middle and its end, and at the given places. A place that is there twice is tried and
+// counted twice.
 fn places(rt: &HostRuntime, flight: &Flight) -> Result<Vec<usize>, Stop> {
     let length = flight.files.body.len();
     let mut places = Vec::new(rt.alloc());
@@ -142,8 +144,6 @@ fn places(rt: &HostRuntime, flight: &Flight) -> Result<Vec<usize>, Stop> {
         places.extend(range.start..range.end.min(length.saturating_add(1)))?;
     }
     places.extend_from_slice(&flight.cuts)?;
-    places.sort_unstable();
-    places.dedup();
     Ok(places)
 }
 
@@ -191,7 +191,8 @@ fn try_switch(
     Ok(())
 }
 
-// Switches around the degree of the polynomial, which are counted in blocks from the header's front on.
+// Switches around the degree of the polynomial, which are counted in blocks from the header's front on, or from the body's where
+// the header alone has more.
 fn try_switches(key: Key, polynomial: Accepted<Block>, message: Message) -> Result<(), Stop> {
     let tagged = tag_message(&mut key.step(), key.pad, message)?;
     let header = message.header.len().div_ceil(16).saturating_mul(16);
@@ -200,7 +201,7 @@ fn try_switches(key: Key, polynomial: Accepted<Block>, message: Message) -> Resu
             key,
             polynomial,
             message,
-            at.saturating_sub(header),
+            at.checked_sub(header).unwrap_or(at),
             tagged.tag,
         )?;
     }
@@ -230,16 +231,48 @@ fn switch_flight(
     Ok(())
 }
 
-// Whether a file is accepted, and its parts are those of the flight.
+// What is left of a message behind the bytes of a record, where these begin its part.
+fn behind<'a>(left: Message<'a>, record: Record) -> Option<Message<'a>> {
+    let Message { header, body } = left;
+    match record {
+        Record::Header(data) => {
+            let header = header.strip_prefix(data)?;
+            Some(Message { header, body })
+        }
+        Record::Body(data) => {
+            let body = body.strip_prefix(data)?;
+            Some(Message { header, body })
+        }
+        Record::End(_) => Some(left),
+    }
+}
+
+// Whether the records of a file are the parts of a message, byte by byte.
+fn records_agree(file: &[u8], message: Message) -> Result<bool, Refusal> {
+    let mut left = message;
+    let mut reader = Reader::new(file);
+    // A file has at most 65,536 blocks, so that the reader has come to its end by then.
+    for _ in 0..65_537u32 {
+        let Some(item) = reader.next()? else { break };
+        let Some(rest) = behind(left, item.record) else {
+            return Ok(false);
+        };
+        left = rest;
+    }
+    Ok(left.header.is_empty() && left.body.is_empty())
+}
+
+// Whether a file is accepted, and its records and its parts are those of the flight.
 fn try_file(rt: &HostRuntime, flight: &Flight, file: &[u8]) -> Result<(), Stop> {
     let key = flight.key;
     let lengths = check_file(key.step(), key.pad, file).answer?;
+    Check::ReadBack.holds(records_agree(file, flight.files.message())?)?;
     let parts = Files::of_sealed(rt, lengths, file)?;
     Check::ReadBack.holds(parts == flight.files)?;
     Ok(())
 }
 
-// 5: the file written, read again, checked, and its parts compared with the flight.
+// 5: the file written, read again, checked, and its records and its parts compared with the flight.
 fn seal_flight(rt: &HostRuntime, flight: &Flight, out: &str) -> Result<(), Stop> {
     let blocks = sealed_file(rt, flight, out)?.blocks;
     try_file(rt, flight, &Argument::Out.read_bytes(rt, out)?)?;

@@ -1,7 +1,6 @@
 // Scripts of a job: a call to a line.
 use crate::stop::{BadWord, Stop};
-use crate::words::row_for;
-use hexadecimal::parse_bytes;
+use crate::words::bytes_of;
 use job::Call;
 use std::alloc::AllocError;
 use std::{fs, io};
@@ -79,17 +78,11 @@ enum Line {
     Close,
 }
 
-fn piece_of_digits(rt: &HostRuntime, word: &str) -> Result<Vec<u8>, LineFault> {
-    let mut bytes = row_for(rt, word)?;
-    parse_bytes(word, &mut bytes).map_err(BadWord::Bytes)?;
-    Ok(bytes)
-}
-
 // Hexadecimal digits, or `@` and the name of a file.
 fn piece_of_word(rt: &HostRuntime, word: &str) -> Result<Vec<u8>, LineFault> {
     match word.strip_prefix('@') {
         Some(name) => Ok(fs::read(rt, name)?),
-        None => piece_of_digits(rt, word),
+        None => Ok(bytes_of(rt, word)?),
     }
 }
 

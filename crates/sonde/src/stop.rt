@@ -39,11 +39,12 @@ impl fmt::Display for Argument {
     }
 }
 
-// A word that should be the digits of a block, or of bytes, and is not.
+// A word that should be the digits of a block, or of bytes, and is not, or for whose bytes there is no memory.
 #[derive(Clone, Copy, Debug)]
 pub(crate) enum BadWord {
     Block(HexFault),
     Bytes(HexFault),
+    NoMemory,
 }
 
 // The fault, and after a wrong count of digits what was wanted.
@@ -52,6 +53,7 @@ impl fmt::Display for BadWord {
         let (fault, wanted) = match self {
             BadWord::Block(fault) => (fault, "32 are wanted"),
             BadWord::Bytes(fault) => (fault, "an even count is wanted"),
+            BadWord::NoMemory => return f.write_str("no memory"),
         };
         write!(f, "{fault}")?;
         if let HexFault::WrongLength { digits: _ } = fault {
@@ -146,11 +148,24 @@ pub(crate) enum Stop {
 }
 
 impl Stop {
-    // A refusal and a comparison that fails are answers and go to standard output, the rest to standard error.
+    // A refusal and a comparison that fails are answers of the library.
+    pub(crate) fn is_answer(&self) -> bool {
+        matches!(self, Stop::Refused(_) | Stop::Differs(_))
+    }
+
+    // Answers go to standard output, the rest to standard error.
     pub(crate) fn print(&self, rt: &HostRuntime) -> io::Result<()> {
+        if self.is_answer() {
+            println!(rt; "{self}")
+        } else {
+            self.print_fault(rt)
+        }
+    }
+
+    // What is no answer, to standard error.
+    pub(crate) fn print_fault(&self, rt: &HostRuntime) -> io::Result<()> {
         match self {
-            Stop::Refused(_) | Stop::Differs(_) => println!(rt; "{self}"),
-            Stop::Grounded => Ok(()),
+            Stop::Refused(_) | Stop::Differs(_) | Stop::Grounded => Ok(()),
             _ => eprintln!(rt; "{self}"),
         }
     }

@@ -1,7 +1,7 @@
 // Words of the command line.
 use crate::stop::{Argument, BadWord, Stop};
 use field::Block;
-use hexadecimal::{parse_block, parse_bytes};
+use hexadecimal::{HexFault, parse_block, parse_bytes};
 use std::alloc::AllocError;
 use std::io::Read;
 use std::{fmt, fs, io};
@@ -21,8 +21,23 @@ fn read_input(rt: &HostRuntime) -> io::Result<Vec<u8>> {
 }
 
 // A row with room for the bytes of a word of digits, two digits to a byte.
-pub(crate) fn row_for(rt: &HostRuntime, word: &str) -> Result<Vec<u8>, AllocError> {
+fn row_for(rt: &HostRuntime, word: &str) -> Result<Vec<u8>, AllocError> {
     vec![in rt.alloc(); 0u8; word.len() / 2]
+}
+
+// What a word for which there is no row is told as: a wrong word is wrong, however little memory there is.
+fn fault_without_row(word: &str) -> BadWord {
+    match parse_bytes(word, &mut []) {
+        Ok(_) | Err(HexFault::RowTooShort { needed: _ }) => BadWord::NoMemory,
+        Err(fault) => BadWord::Bytes(fault),
+    }
+}
+
+// The bytes of a word of any even count of digits.
+pub(crate) fn bytes_of(rt: &HostRuntime, word: &str) -> Result<Vec<u8>, BadWord> {
+    let mut bytes = row_for(rt, word).map_err(|_| fault_without_row(word))?;
+    parse_bytes(word, &mut bytes).map_err(BadWord::Bytes)?;
+    Ok(bytes)
 }
 
 impl Argument {
@@ -36,12 +51,10 @@ impl Argument {
 
     // A word of any even count of digits.
     pub(crate) fn parse_bytes(self, rt: &HostRuntime, word: &str) -> Result<Vec<u8>, Stop> {
-        let mut bytes = row_for(rt, word)?;
-        parse_bytes(word, &mut bytes).map_err(|fault| Stop::BadHex {
+        bytes_of(rt, word).map_err(|word| Stop::BadHex {
             argument: self,
-            word: BadWord::Bytes(fault),
-        })?;
-        Ok(bytes)
+            word,
+        })
     }
 
     // A number in decimal digits.

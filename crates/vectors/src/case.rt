@@ -4,7 +4,7 @@ use crate::fault::Fault;
 use crate::jobs::print_jobs;
 use crate::trials::print_made;
 use field::Block;
-use hexadecimal::{parse_block, parse_bytes};
+use hexadecimal::{HexFault, parse_block, parse_bytes};
 use message::{Digest, Message, Pad, Tag};
 use std::alloc::Global;
 
@@ -15,8 +15,32 @@ pub(crate) struct Case {
     pub(crate) header: Vec<u8>,
     pub(crate) body: Vec<u8>,
     pub(crate) pad: Pad,
-    // What is published of it.
-    pub(crate) digest: Digest,
+}
+
+// What is published of a case, as it is written. It is read only once the case's own hash is there.
+#[derive(Clone, Copy)]
+struct Published<'a> {
+    hash: &'a str,
+    tag: &'a str,
+}
+
+impl Published<'_> {
+    fn tag(self) -> Result<Tag, Fault> {
+        Ok(Tag(parse_block(self.tag)?))
+    }
+
+    // The tag is looked at where the hash is the published one, so that a hash that differs is told whatever its tag's word is.
+    fn is_of(self, digest: Digest) -> Result<bool, Fault> {
+        Ok(digest.hash == parse_block(self.hash)? && digest.tag == self.tag()?)
+    }
+}
+
+// What a word for which there is no row is told as: a wrong word is wrong, however little memory there is.
+fn fault_without_row(word: &str) -> Fault {
+    match parse_bytes(word, &mut []) {
+        Ok(_) | Err(HexFault::RowTooShort { needed: _ }) => Fault::NoMemory,
+        Err(fault) => Fault::BadHex(fault),
+    }
 }
 
 // A header or a body, where - stands for an empty one.
@@ -24,32 +48,20 @@ fn read_part(heap: Global, word: &str) -> Result<Vec<u8>, Fault> {
     if word == "-" {
         return Ok(Vec::new(heap));
     }
-    let mut bytes = vec![in heap; 0u8; word.len() / 2]?;
+    let row = vec![in heap; 0u8; word.len() / 2];
+    let mut bytes = row.map_err(|_| fault_without_row(word))?;
     parse_bytes(word, &mut bytes)?;
     Ok(bytes)
 }
 
-fn parse_blocks(first: &str, second: &str) -> Result<[Block; 2], Fault> {
-    Ok([parse_block(first)?, parse_block(second)?])
-}
-
 impl Case {
-    // The words of a line after its number.
-    fn parse(
-        heap: Global,
-        [subkey, pad, header, body, hash, tag]: [&str; 6],
-    ) -> Result<Case, Fault> {
-        let [subkey, pad] = parse_blocks(subkey, pad)?;
-        let [hash, tag] = parse_blocks(hash, tag)?;
+    // The words of a line that say what is hashed. The pad is read last, so that of several wrong words a part's is told before it.
+    fn parse(heap: Global, [subkey, pad, header, body]: [&str; 4]) -> Result<Case, Fault> {
         Ok(Case {
-            subkey,
+            subkey: parse_block(subkey)?,
             header: read_part(heap, header)?,
             body: read_part(heap, body)?,
-            pad: Pad(pad),
-            digest: Digest {
-                hash,
-                tag: Tag(tag),
-            },
+            pad: Pad(parse_block(pad)?),
         })
     }
 
@@ -63,9 +75,15 @@ impl Case {
 
 // Prints what a case gives, by engines and by jobs too where more is asked for, and a polynomial for its subkey; answers whether
 // hash and tag are as published.
-fn print_case(rt: &HostRuntime, number: &str, case: &Case, more: bool) -> Result<bool, Fault> {
+fn print_case(
+    rt: &HostRuntime,
+    number: &str,
+    case: &Case,
+    published: Published,
+    more: bool,
+) -> Result<bool, Fault> {
     let digest = case.message().hash_and_tag(case.subkey, case.pad)?;
-    let same = digest == case.digest;
+    let same = published.is_of(digest)?;
     let verdict = if same { "as published" } else { "DIFFERS" };
     println!(rt;
         "case {number}: hash {} tag {} {verdict}",
@@ -74,7 +92,7 @@ fn print_case(rt: &HostRuntime, number: &str, case: &Case, more: bool) -> Result
     print_made(rt, case.subkey)?;
     print_engines(rt, case, digest.hash)?;
     if more {
-        print_jobs(rt, case)?;
+        print_jobs(rt, case, published.tag()?)?;
     }
     Ok(same)
 }
@@ -85,6 +103,6 @@ pub(crate) fn compare(rt: &HostRuntime, line: &str, more: bool) -> Result<bool, 
     let [number, subkey, pad, header, body, hash, tag] = words.as_slice() else {
         return Err(Fault::WrongCount);
     };
-    let case = Case::parse(rt.alloc(), [subkey, pad, header, body, hash, tag])?;
-    print_case(rt, number, &case, more)
+    let case = Case::parse(rt.alloc(), [subkey, pad, header, body])?;
+    print_case(rt, number, &case, Published { hash, tag }, more)
 }

@@ -7,7 +7,7 @@ use division::Division;
 use engine::{Engine, Pair, Step};
 use field::{Block, Element};
 use job::{Call, Calls, Closed, difference_of_runs, replay};
-use message::{Message, Pad};
+use message::{Message, Pad, Tag};
 use polynomial::Accepted;
 use std::alloc::{AllocError, Global};
 
@@ -67,14 +67,19 @@ impl Feeding {
 
 impl Case {
     // Whether the tag is the published one, over both engines.
-    fn tags_agree(&self, feeding: Feeding, polynomial: Accepted<Block>) -> Result<bool, Fault> {
+    fn tags_agree(
+        &self,
+        feeding: Feeding,
+        polynomial: Accepted<Block>,
+        tag: Tag,
+    ) -> Result<bool, Fault> {
         let step = || Step::new(self.subkey);
         let division = || Division::new(polynomial);
         let pair = Pair::new(step(), division());
         let pairs = Pair::new(Pair::new(division(), step()), Pair::new(step(), division()));
         let by_pair = feeding.close(pair, self.message())?;
         let by_pairs = feeding.close(pairs, self.message())?;
-        Ok(by_pair.digest == self.digest && by_pairs.digest == self.digest)
+        Ok(by_pair.digest.tag == tag && by_pairs.digest.tag == tag)
     }
 
     // By how much the hashes of the body and of its complement differ, each fed in pieces of its own.
@@ -102,14 +107,14 @@ impl Case {
 }
 
 // Prints whether the jobs of a published case end as published.
-pub(crate) fn print_jobs(rt: &HostRuntime, case: &Case) -> Result<(), Fault> {
+pub(crate) fn print_jobs(rt: &HostRuntime, case: &Case, tag: Tag) -> Result<(), Fault> {
     let heap = rt.alloc();
     let polynomial = accepted(case.subkey)?;
     let mut agree = case.difference_agrees(heap)?;
     for cut in CUTS {
         let pad = case.pad;
         let feeding = Feeding { heap, cut, pad };
-        agree = case.tags_agree(feeding, polynomial)? && agree;
+        agree = case.tags_agree(feeding, polynomial, tag)? && agree;
     }
     let verdict = verdict(agree);
     println!(rt; "jobs {verdict}, cut every 1, 7, 15, 16 and 17 bytes")?;
