@@ -110,12 +110,12 @@ module _ (subkey : Block) (pad : Pad) (header body : List ℕ) where
 -- ---- an accepted file is sealed
 
 -- what the check found of a file that it accepts
-record Accepted (subkey : Block) (pad : Pad) (file : List ℕ) (lens : Lengths) : Type 0 where
+pub record Accepted (subkey : Block) (pad : Pad) (file : List ℕ) (lens : Lengths) : Type 0 where
   pub through : Passed file
   pub tagged : numeral 256 (tag_in file) ≡ (tag_of subkey pad (header_in file) (body_in file)).0.bits
   pub read : lens ≡ lengths_in file
 
-accepted_parts : (subkey : Block) (pad : Pad) (file : List ℕ) (lens : Lengths) → verdict subkey pad file ≡ Ok lens
+pub accepted_parts : (subkey : Block) (pad : Pad) (file : List ℕ) (lens : Lengths) → verdict subkey pad file ≡ Ok lens
     → Accepted subkey pad file lens
 accepted_parts subkey pad file lens e =
     let tag : Block = (tag_of subkey pad (header_in file) (body_in file)).0 in

@@ -34,7 +34,7 @@ length_answers part can_switch taken [] = refl
 length_answers part can_switch taken (c ∷ cs) =
     ap suc (length_answers part can_switch (taken ++ call_bytes c (answer_to part can_switch taken c)) cs)
 
-accepted_append : (cs ds : List Call) (xs ys : List Answer) → length xs ≡ length cs
+pub accepted_append : (cs ds : List Call) (xs ys : List Answer) → length xs ≡ length cs
     → accepted_bytes (cs ++ ds) (xs ++ ys) ≡ accepted_bytes cs xs ++ accepted_bytes ds ys
 accepted_append [] ds [] ys same = refl
 accepted_append [] ds (x ∷ xs) ys same = absurd (omega arith)
@@ -71,7 +71,7 @@ answers_append part can_switch taken (c ∷ cs) ds =
     (append_assoc taken (call_bytes c a) (accepted_bytes cs (answers_to part can_switch after cs))))
 
 module _ {E : Type 0} (m : Ghosts E) (h : Block) (can_switch : Bool) (before : List Block) where
-  answered_none : (f : BlockBuffer E) (taken : List ℕ) (xs : List Answer) → xs ≡ []
+  pub answered_none : (f : BlockBuffer E) (taken : List ℕ) (xs : List Answer) → xs ≡ []
       → Holds m h can_switch before f taken → AnswersFrom m h can_switch before f taken [] xs f
   answered_none f taken xs none held = record {
     said = none;
@@ -79,7 +79,7 @@ module _ {E : Type 0} (m : Ghosts E) (h : Block) (can_switch : Bool) (before : L
     chain = refl;
   }
 
-  answered_append : (f g t : BlockBuffer E) (taken : List ℕ) (cs ds : List Call) (xs ys : List Answer)
+  pub answered_append : (f g t : BlockBuffer E) (taken : List ℕ) (cs ds : List Call) (xs ys : List Answer)
       → AnswersFrom m h can_switch before f taken cs xs g
       → AnswersFrom m h can_switch before g (taken ++ accepted_bytes cs xs) ds ys t → g.part ≡ f.part
       → AnswersFrom m h can_switch before f taken (cs ++ ds) (xs ++ ys) t

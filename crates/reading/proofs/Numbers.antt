@@ -16,7 +16,7 @@ two_bytes_at k bs long =
     let left : 2 ≤ length (drop k bs) = omega (arith, length-drop k bs) in
     two_bytes (drop k bs) left ∙ (λ i. get_or-drop k bs 0 0 i * 256 + get_or-drop k bs 1 0 i)
 
-four_bytes : (bs : List ℕ) → length bs ≡ 4
+pub four_bytes : (bs : List ℕ) → length bs ≡ 4
     → numeral 256 bs ≡ get_or bs 0 0 * 16777216 + get_or bs 1 0 * 65536 + get_or bs 2 0 * 256 + get_or bs 3 0
 unfolding numeral
 four_bytes bs long = ap (numeral 256) (spells bs ∙ ap (λ (n : ℕ). spelled n (λ k. get_or bs k 0)) long) ∙ omega arith

@@ -24,7 +24,7 @@ sized file good = record { whole = grind (arith, nat_tests); some = grind (arith
 -- ---- a block of good form
 
 -- what follows the prefix, past the data and up to the check
-fill_is : (b rest : List ℕ) (used : ℕ) → rest ≡ drop 6 b → used ≤ 502
+pub fill_is : (b rest : List ℕ) (used : ℕ) → rest ≡ drop 6 b → used ≤ 502
     → take (502 - used) (drop used rest) ≡ drop (6 + used) (take 508 b)
 fill_is b rest used follows within =
     let past : drop used rest ≡ drop (6 + used) b = ap (drop used) follows ∙ drop-drop used 6 b in

@@ -18,7 +18,7 @@ module _ (subkey : Block) (pad : Pad) (header body given : List ℕ) (low : shor
   verdict same = cond same (Ok tt) (Err TagDiffers)
 
   -- a given tag of a right length: the message's answer, and then the comparison
-  go_on-verdict : (r : Result Digest Refusal) (same : Bool) → r ≡ digest_answer subkey pad header body → same ≡ begins_tag (tag_of subkey pad header body) given
+  pub go_on-verdict : (r : Result Digest Refusal) (same : Bool) → r ≡ digest_answer subkey pad header body → same ≡ begins_tag (tag_of subkey pad header body) given
       → go_on (verdict same) r ≡ check_answer subkey pad header body given
   go_on-verdict r same said looked =
       after_lengths (verdict same) header body (digest_of subkey pad header body) r said
